@@ -1,5 +1,5 @@
 -- A slice after a write to a part of it.
-use Prim.Native.Nat.{ℕ, zero, suc, _-_, min}
+use Prim.Native.Nat.{ℕ, zero, suc, _-_, _≤_, min}
 use mathlib.Core.List.{List, [], _∷_, _++_}
 use mathlib.Core.Path.{_≡_, refl, ap, ap₂, _∙_}
 use lib.ListN.{length, take, drop}
@@ -41,3 +41,9 @@ filled-front xs n front e f =
     let b : drop (n - 0) (zeros 16) ≡ zeros (16 - (n - 0)) = drop-replicate (n - 0) 16 0 in
     let g : 16 - (n - 0) ≡ 16 - length xs = omega arith in
     ap₂ (λ (x y : List ℕ). x ++ y) (f ∙ a) (b ∙ ap zeros g)
+
+pub filled-take : (n : ℕ) (xs : List ℕ) → n ≤ length xs → filled n xs ≡ take n xs
+unfolding filled
+filled-take n xs h =
+    let z : n - length xs ≡ 0 = omega arith in
+    ap (λ (k : ℕ). take n xs ++ zeros k) z ∙ append-nil (take n xs)

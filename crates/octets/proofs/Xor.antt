@@ -8,7 +8,7 @@ use lib.ListN.{length, take, drop, getD, set}
 use native.Mathlib.Numerals.{add-one}
 use native.Mathlib.Omega.{arith}
 use Rattle.std.specs.shelf.Lists.{All}
-use Rattle.std.proofs.shelf.Lists.{take-all, drop-all, take-at, drop-at, length-take, length-drop, length-append, take-append-drop, append-nil}
+use Rattle.std.proofs.shelf.Lists.{take-all, drop-all, length-append, take-append-drop, append-nil}
 use Rattle.octets.proofs.Bytes.{Below256, all-bytes, bytes-all, bytes-append, bytes-take, bytes-drop}
 use Rattle.octets.specs.Strings.{Bytes, xor, xorAt}
 
@@ -66,6 +66,18 @@ xor-take (x ∷ xs) (y ∷ ys) (suc n) p = ap (λ (t : List ℕ). bitXor x y ∷
 pub xor-upto : (xs ys : List ℕ) (n : ℕ) → (length xs ≤ n) ⊎ (length ys ≤ n) → xor xs (take n ys) ≡ xor xs ys
 xor-upto xs ys n (inl p) = xor-take xs ys n p
 xor-upto xs ys n (inr q) = ap (xor xs) (take-all n ys q)
+
+-- adding to two strings joined
+pub xor-append : (xs xs′ ys : List ℕ) → xor (xs ++ xs′) ys ≡ xor xs ys ++ xor xs′ (drop (length xs) ys)
+unfolding xor
+xor-append [] xs′ ys = refl
+xor-append (x ∷ xs) xs′ [] = ap (λ (t : List ℕ). x ∷ (xs ++ t)) (sym (xor-nil xs′))
+xor-append (x ∷ xs) xs′ (y ∷ ys) = ap (λ (t : List ℕ). bitXor x y ∷ t) (xor-append xs xs′ ys)
+
+-- a short string added to the start of a longer one
+pub xor-front : (t x h : List ℕ) → length h ≤ length t → xor (t ++ x) h ≡ xor t h ++ x
+xor-front t x h n =
+    xor-append t x h ∙ ap (λ (y : List ℕ). xor t h ++ y) (ap (xor x) (drop-all (length t) h n) ∙ xor-nil x)
 
 pub length-xorAt : (at : ℕ) (xs ys : List ℕ) → length (xorAt at xs ys) ≡ length xs
 unfolding xorAt
