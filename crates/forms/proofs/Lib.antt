@@ -1,0 +1,9 @@
+mod Lawful
+mod Halting
+mod Digits
+mod Hexes
+mod Numbers
+mod Words
+mod Rests
+mod Turns
+mod Reading

@@ -1,0 +1,9 @@
+pub mod Answers
+pub mod Hex
+pub mod Decoding
+pub mod Decimals
+pub mod Columns
+pub mod Spelling
+pub mod Said
+pub mod Scans
+pub mod Taking

@@ -1,0 +1,31 @@
+// What is answered to a line, and how it is written.
+ghost use Rattle.std.specs.declared.option.Option.the-variants.{Some};
+ghost use Rattle.forms.specs.Answers.{spelled};
+use refusals::Refusal;
+use refusals::RefusalDisplay;
+use std::fmt;
+
+#[derive(Clone, Copy)]
+pub enum Answer {
+    Ready,
+    Ticket(u64),
+    GivenUp(u64),
+    NoTicket,
+    Refused(Refusal),
+    Unread(usize),
+}
+
+pub impl fmt::Display for Answer as AnswerDisplay {
+    ghost shown = { λ a. Some (spelled a) };
+
+    fn fmt<W: fmt::Write>(&self, f: &mut fmt::Formatter<W>) -> fmt::Result {
+        match self {
+            Answer::Ready => f.write_str("(ready)"),
+            Answer::Ticket(number) => write!(f, "(ticket {number})"),
+            Answer::GivenUp(number) => write!(f, "(given-up {number})"),
+            Answer::NoTicket => f.write_str("(no-ticket)"),
+            Answer::Refused(refusal) => write!(f, "{refusal}"),
+            Answer::Unread(column) => write!(f, "(unread {column})"),
+        }
+    }
+}
