@@ -34,7 +34,6 @@ pub digit-high : (d : ℕ) → 48 ≤ digit d
 digit-high d = cond-both (ltb d 10) (48 + d) (87 + d) (λ x. 48 ≤ x) (λ e. omega arith) (λ e. omega arith)
 
 pub nibbled-some : (c d : ℕ) → nibbled c ≡ Some d → (d < 16) × (c ≡ digit d)
-unfolding nibbled
 nibbled-some c d =
     let P : Option ℕ → Type 0 = λ o. o ≡ Some d → (d < 16) × (c ≡ digit d) in
     cond-both (ltb c 48) None _ P (λ _ e. none-some e) (λ f.
@@ -43,25 +42,21 @@ nibbled-some c d =
     cond-both (ltb c 103) (Some (c - 87)) None P (λ t e. let s = some-is e in let i = ltb-true c 103 t in let k = ltb-false c 97 h in (omega arith, (let m : c ≡ 87 + d = omega arith in m) ∙ sym (digit-many d (omega arith)))) (λ _ e. none-some e))))
 
 nibbled-few : (c d : ℕ) → c ≡ 48 + d → d < 10 → nibbled c ≡ Some d
-unfolding nibbled
 nibbled-few c d e k = let same : c - 48 ≡ d = omega arith in rw (le-ltb c 48 (omega arith), lt-ltb c 58 (omega arith)) (ap Some same)
 
 nibbled-many : (c d : ℕ) → c ≡ 87 + d → 10 ≤ d → d < 16 → nibbled c ≡ Some d
-unfolding nibbled
 nibbled-many c d e k h = let same : c - 87 ≡ d = omega arith in rw (le-ltb c 48 (omega arith), le-ltb c 58 (omega arith), le-ltb c 97 (omega arith), lt-ltb c 103 (omega arith)) (ap Some same)
 
 pub nibbled-digit : (d : ℕ) → d < 16 → nibbled (digit d) ≡ Some d
 nibbled-digit d h = ⊎-elim (λ k. nibbled-few (digit d) d (digit-few d k) k) (λ k. nibbled-many (digit d) d (digit-many d k) k h) (cases-lt d 10)
 
 pub tenth-some : (c d : ℕ) → tenth c ≡ Some d → (48 ≤ c) × (c ≤ 57) × (d ≡ c - 48)
-unfolding tenth
 tenth-some c d =
     let P : Option ℕ → Type 0 = λ o. o ≡ Some d → (48 ≤ c) × (c ≤ 57) × (d ≡ c - 48) in
     cond-both (ltb c 48) None _ P (λ _ e. none-some e) (λ f.
     cond-both (ltb c 58) (Some (c - 48)) None P (λ t e. let s = some-is e in let i = ltb-true c 58 t in let k = ltb-false c 48 f in (omega arith, omega arith, omega arith)) (λ _ e. none-some e))
 
 pub tenth-digit : (c : ℕ) → 48 ≤ c → c ≤ 57 → tenth c ≡ Some (c - 48)
-unfolding tenth
 tenth-digit c h k = rw (le-ltb c 48 h, lt-ltb c 58 (omega arith)) refl
 
 -- a byte that is no digit is not the digit of a number

@@ -112,11 +112,9 @@ FirstWord n w = (ds : List ℕ) × Writes n ds × (w ≡ codes " (first " ++ ds 
 
 -- the byte after a byte string is no digit
 pub space : nibbled 32 ≡ None
-unfolding nibbled
 space = refl
 
 pub bracket : nibbled 41 ≡ None
-unfolding nibbled
 bracket = refl
 
 lawful-keys : Lawful KeysWord keys

@@ -22,7 +22,7 @@ hexed [] = 45 ∷ []
 hexed (b ∷ bs) = pairs (b ∷ bs)
 
 -- the number that a digit stands for
-unfoldable pub nibbled : ℕ → Option ℕ
+abbrev pub nibbled : ℕ → Option ℕ
 nibbled c = cond (ltb c 48) None (cond (ltb c 58) (Some (c - 48)) (cond (ltb c 97) None (cond (ltb c 103) (Some (c - 87)) None)))
 
 -- the same, and 0 for what is no digit

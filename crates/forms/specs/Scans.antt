@@ -85,7 +85,7 @@ limited n (Ok f) = cond (leb n 16384) (Ok f) (Err 16385)
 limited n (Err c) = Err (min c 16385)
 
 -- the number that a decimal digit stands for
-unfoldable pub tenth : ℕ → Option ℕ
+abbrev pub tenth : ℕ → Option ℕ
 tenth c = cond (ltb c 48) None (cond (ltb c 58) (Some (c - 48)) None)
 
 -- two digits

@@ -14,13 +14,13 @@ pub returns-then-eat : need.returns-then-eat
 returns-then-eat c = number-closed _ _ _ _ (c .if-eat .ensures tt) ∙ sym (number-first _ _ _ (c .in-Continue-value .ensures tt) ∙ c .loop-count .inv .1)
 
 pub mul-value : need.mul-value
-mul-value c = omega (arith, small-enough _ _ (c .loop-count-test .taken) (c .loop-count .inv .0))
+mul-value c = omega (arith, small-enough (c .loop-count .-count) (c .loop-count .value) (omega (arith, c .loop-count-test .taken)) (c .loop-count .inv .0))
 
 pub returns-in-Break-value-2 : need.returns-in-Break-value-2
 returns-in-Break-value-2 c = handed _ _ _ _ _ (c .from-residual-in-Break-value-2 .ensures .1) (number-stuck _ _ _ _ (c .if-eat .ensures tt) _ (c .in-Break-value-2 .ensures tt) ∙ sym (number-first _ _ _ (c .in-Continue-value .ensures tt) ∙ c .loop-count .inv .1))
 
 pub add-value : need.add-value
-add-value c = omega (arith, small-enough _ _ (c .loop-count-test .taken) (c .loop-count .inv .0), decimal-small _ _ _ (c .in-Continue-value-2 .ensures tt))
+add-value c = omega (arith, small-enough (c .loop-count .-count) (c .loop-count .value) (omega (arith, c .loop-count-test .taken)) (c .loop-count .inv .0), decimal-small _ _ _ (c .in-Continue-value-2 .ensures tt))
 
 pub loop-count-again : need.loop-count-again
 loop-count-again c =
