@@ -1,0 +1,3 @@
+pub mod Construction
+pub mod Verdicts
+pub mod Making

@@ -1,0 +1,4 @@
+pub mod Admitted
+pub mod Ddd
+pub mod Refusals
+pub mod Piles
