@@ -1,0 +1,4 @@
+pub mod Areas
+pub mod Examined
+pub mod Opening
+pub mod Sealings
