@@ -1,17 +1,34 @@
 // The two ends of a line: tickets and the sending end.
 mod fault;
-mod line;
+mod promising;
+mod receiver;
+mod receiving;
 mod sender;
 mod sending;
 mod ticket;
+mod window;
+mod windowing;
 
+pub use fault::ReceiverFault;
+pub use fault::ReceiverFaultDebug;
+pub use fault::ReceiverFaultEq;
+pub use fault::ReceiverFaultFromSealingFault;
+pub use fault::ReceiverFaultFromWindowFault;
+pub use fault::ReceiverFaultPartialEq;
+pub use fault::RefusalFromReceiverFault;
 pub use fault::RefusalFromSenderFault;
 pub use fault::SenderFault;
 pub use fault::SenderFaultDebug;
 pub use fault::SenderFaultEq;
+pub use fault::SenderFaultFromSealingFault;
 pub use fault::SenderFaultPartialEq;
-pub use line::LineName;
-pub use line::LineNameDebug;
+pub use fault::WindowFault;
+pub use fault::WindowFaultDebug;
+pub use fault::WindowFaultEq;
+pub use fault::WindowFaultPartialEq;
+pub use promising::promise;
+pub use receiver::Receiver;
 pub use sender::Sender;
 pub use ticket::Returned;
 pub use ticket::Ticket;
+pub use window::Window;

@@ -2,7 +2,7 @@
 ghost use mathlib.Core.Path.{_≡_};
 ghost use Prim.Native.Nat.{ℕ, _+_, _<_, _≤_, _^_};
 ghost use Rattle.std.specs.declared.option.Option.the-variants.{Some};
-use crate::line::LineName;
+use sealing::LineName;
 
 // Numbers go up by ones, to 2^40; at most one is outstanding, and it was drawn.
 #[derive(Drop)]

@@ -2,7 +2,6 @@
 
 #[cfg(test)]
 mod tests {
-    use ends::LineName;
     use ends::RefusalFromSenderFault;
     use ends::Returned;
     use ends::Sender;
@@ -14,12 +13,13 @@ mod tests {
     use refusals::ReasonDebug;
     use refusals::ReasonPartialEq;
     use refusals::Refusal;
+    use sealing::LineName;
     use std::test::*;
 
     const LAST: u64 = 1 << 40;
 
     fn sender(first: u64) -> Result<Sender<(), ()>, SenderFault> {
-        Sender::new((), (), LineName([0; 8]), first)
+        Sender::new((), (), LineName::new(&[0; 8]), first)
     }
 
     // Draws a ticket and gives it up.

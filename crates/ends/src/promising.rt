@@ -1,0 +1,14 @@
+// The promise over every list of calls.
+ghost use Rattle.ends.specs.Promise.{Promise as Promised};
+ghost use Rattle.sealing.specs.Meaning.{meaning};
+use ciphers::WideCipher;
+use hashes::KeyedHash;
+use sealing::LineName;
+use sealing::lawful;
+
+// Does nothing: its contract is the promise, for a line of this meaning.
+pub fn promise<C: WideCipher, J: KeyedHash>(cipher: &C, hash: &J, line: &LineName)
+    ensures { λ _. ⌜ Promised (meaning C·WideCipher J·KeyedHash (now (cipher .entry)) (now (hash .entry)) (now (line .entry) .bytes)) ⌝ }
+{
+    lawful(cipher, hash, line);
+}
