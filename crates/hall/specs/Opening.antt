@@ -3,8 +3,7 @@ use Prim.Native.Nat.{ℕ}
 use mathlib.Core.List.{List}
 use mathlib.Core.Path.{_≡_}
 use Rattle.ends.specs.Refusals.{told}
-use Rattle.ends.specs.Sending as sending
-use Rattle.ends.specs.Sending.{making}
+use Rattle.ends.specs.Sending.{Parts, Counting, making}
 use Rattle.ends.specs.declared.fault.SenderFault.{SenderFault}
 use Rattle.forms.specs.Columns.{Reads}
 use Rattle.forms.specs.Spelling.{Ends}
@@ -31,8 +30,8 @@ withKey (Ok k) next = next k
 withKey (Err e) next = Err (alone (keyLength (e .0)))
 
 -- a sender that was made, with no ticket held
-abbrev pub made : {C J : Type 0} → Result (sending.State C J) SenderFault → Result (State C J) Refusal
-made (Ok s) = Ok (record { sender = s; held = None })
+abbrev pub made : {C J : Type 0} → Result (Parts C J × Counting) SenderFault → Result (State C J) Refusal
+made (Ok s) = Ok (record { parts = s .0; sender = s .1; held = None })
 made (Err f) = Err (told f)
 
 -- the key of the expander: pile a has AES, of 16 or 32 bytes, and pile b ChaCha, of 32
@@ -44,7 +43,7 @@ expanderKey B key = keyed 32 32 key
 abbrev pub opened : Ends → Result (State CipherKeys Key) Refusal
 opened o =
     withKey (keyed 16 16 (o .hash-key)) (λ h. withKey (expanderKey (o .pile) (o .expander-key)) (λ e. withKey (keyed 16 16 (o .header-key)) (λ j.
-    made (making (record { hash = h; expander = e }) j (record { 0 = o .line }) (o .first)))))
+    made (making (record { hash = h; expander = e }) j (o .line) (o .first)))))
 
 abbrev pub seen : {C J E : Type 0} → Result (Hall C J) E → Result (State C J) E
 seen (Ok h) = Ok (stateOf h)

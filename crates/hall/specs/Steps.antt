@@ -7,8 +7,7 @@ use Rattle.std.specs.declared.option.Option.the-variants.{Some, None}
 use Rattle.std.specs.declared.result.Result.{Result}
 use Rattle.std.specs.declared.result.Result.the-variants.{Ok, Err}
 use Rattle.ends.specs.Refusals.{told}
-use Rattle.ends.specs.Sending as sending
-use Rattle.ends.specs.Sending.{drawing, afterDraw, givingUp, afterGivingUp}
+use Rattle.ends.specs.Sending.{Parts, Counting, partsOf, countingOf, drawing, afterDraw, givingUp, afterSpending}
 use Rattle.ends.specs.declared.fault.SenderFault.{SenderFault}
 use Rattle.ends.specs.declared.ticket.Returned.{Returned}
 use Rattle.ends.specs.declared.ticket.Ticket.{Ticket}
@@ -20,13 +19,14 @@ use Rattle.forms.specs.Spelling.{Asked, Asks, draw, give-up}
 use Rattle.forms.specs.declared.command.Command.{Command}
 use Rattle.hall.specs.declared.hall.Hall.{Hall}
 
--- the sending end and the ticket held, if any
+-- the parts and the line of the ends, where the sender stands, and the ticket held, if any
 pub record State (C J : Type 0) : Type 0 where
-  pub sender : sending.State C J
+  pub parts : Parts C J
+  pub sender : Counting
   pub held : Option Ticket
 
 abbrev pub stateOf : {C J : Type 0} → Hall C J → State C J
-stateOf h = record { sender = sending.stateOf (h .sender); held = h .held }
+stateOf h = record { parts = partsOf (h .sender); sender = countingOf (h .sender); held = h .held }
 
 -- a draw: the ticket is held
 abbrev pub drew : Result Ticket SenderFault → Answer
@@ -46,13 +46,14 @@ abbrev pub handedBack : Result ℕ Returned → Option Ticket
 handedBack (Ok n) = None
 handedBack (Err e) = Some (e .ticket)
 
-abbrev pub givingUpHeld : {C J : Type 0} → sending.State C J → Option Ticket → Answer
-givingUpHeld s None = answer.NoTicket
-givingUpHeld s (Some t) = gaveUp (givingUp s t)
+abbrev pub givingUpHeld : Counting → Option Ticket → Answer
+givingUpHeld c None = answer.NoTicket
+givingUpHeld c (Some t) = gaveUp (givingUp c t)
 
-abbrev pub afterGivingUpHeld : {C J : Type 0} → sending.State C J → Option Ticket → State C J
-afterGivingUpHeld s None = record { sender = s; held = None }
-afterGivingUpHeld s (Some t) = record { sender = afterGivingUp (givingUp s t) s; held = handedBack (givingUp s t) }
+abbrev pub afterGivingUpHeld : {C J : Type 0} → State C J → Option Ticket → State C J
+afterGivingUpHeld h None = h
+afterGivingUpHeld h (Some t) =
+    record { parts = h .parts; sender = afterSpending (givingUp (h .sender) t) (h .sender); held = handedBack (givingUp (h .sender) t) }
 
 -- what is answered to what a line asks, and what it leaves
 abbrev pub answering : {C J : Type 0} → State C J → Asked → Answer
@@ -61,8 +62,8 @@ answering h give-up = givingUpHeld (h .sender) (h .held)
 
 abbrev pub afterAsking : {C J : Type 0} → State C J → Asked → State C J
 afterAsking h draw =
-    record { sender = afterDraw (drawing (h .sender)) (h .sender); held = holding (drawing (h .sender)) (h .held) }
-afterAsking h give-up = afterGivingUpHeld (h .sender) (h .held)
+    record { parts = h .parts; sender = afterDraw (drawing (h .sender)) (h .sender); held = holding (drawing (h .sender)) (h .held) }
+afterAsking h give-up = afterGivingUpHeld h (h .held)
 
 -- an unread line is answered by its column and leaves all as it was
 abbrev pub answeringRead : {C J : Type 0} → State C J → Result Asked ℕ → Answer
@@ -78,9 +79,9 @@ abbrev pub Steps : {C J : Type 0} → State C J → List ℕ → Answer → Stat
 Steps h s r h′ = (q : Result Asked ℕ) × Reads Asks s q × (r ≡ answeringRead h q) × (h′ ≡ afterRead h q)
 
 -- at the end of the input a ticket still held is given up
-abbrev pub closingWith : {C J : Type 0} → sending.State C J → Option Ticket → Option Answer
-closingWith s None = None
-closingWith s (Some t) = Some (gaveUp (givingUp s t))
+abbrev pub closingWith : Counting → Option Ticket → Option Answer
+closingWith c None = None
+closingWith c (Some t) = Some (gaveUp (givingUp c t))
 
 abbrev pub closing : {C J : Type 0} → State C J → Option Answer
 closing h = closingWith (h .sender) (h .held)

@@ -6,7 +6,6 @@ use crate::hall::Hall;
 use crate::parts::CipherKeys;
 use crate::parts::Key;
 use crate::parts::read_key;
-use ends::LineName;
 use ends::RefusalFromSenderFault;
 use ends::Sender;
 use forms::Answer;
@@ -16,6 +15,7 @@ use forms::Unread;
 use forms::read_opening;
 use refusals::Refusal;
 use refusals::RefusalFromKeyLength;
+use sealing::LineName;
 
 // Makes the ends. Keys are judged in the order hash, expander, header hash, and then the first number.
 fn make(opening: &Opening<'_>) -> Result<Hall<CipherKeys, Key>, Refusal>
@@ -28,7 +28,7 @@ fn make(opening: &Opening<'_>) -> Result<Hall<CipherKeys, Key>, Refusal>
     };
     let header = read_key(&opening.header_key, 16, 16)?;
     let keys = CipherKeys { hash, expander };
-    let line = LineName(opening.line);
+    let line = LineName::new(&opening.line);
     let sender = Sender::new(keys, header, line, opening.first)?;
     Ok(Hall { sender, held: None })
 }
