@@ -55,7 +55,7 @@ module _ (L : List ℕ → Type 0) where
   }
 
 module _ {F : Type 0} {V : F → List ℕ → Type 0} {scan : Scan F} (l : Lawful V scan) where
-  spelt-whole : (x : F) (s : List ℕ) → V x s → scan s ≡ Ok (x, [])
+  pub spelt-whole : (x : F) (s : List ℕ) → V x s → scan s ≡ Ok (x, [])
   spelt-whole x s v = ap scan (sym (append-nil s)) ∙ l .complete x s [] v
 
   pub once : (x y : F) (s : List ℕ) → V x s → V y s → x ≡ y

@@ -7,3 +7,4 @@ mod Words
 mod Rests
 mod Turns
 mod Reading
+mod Written

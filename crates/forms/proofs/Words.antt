@@ -15,7 +15,7 @@ use Rattle.forms.specs.declared.opening.Pile.{Pile}
 use Rattle.forms.specs.declared.opening.Pile.the-variants.{A, B}
 use Rattle.forms.specs.Decimals.{Writes}
 use Rattle.forms.specs.Hex.{digit, pairs, hexed, nibbled}
-use Rattle.forms.specs.Scans.{done, takes, one, is, literal, byte, bytes, piled, keys, lineName, firstNumber, opened, ends, word}
+use Rattle.forms.specs.Scans.{done, takes, one, is, literal, byte, bytes, piled, keys, lineName, firstNumber, opened, ends, word, strings, ofStrings}
 use Rattle.forms.specs.Spelling.{letter, Opens}
 use Rattle.forms.proofs.Digits.{some-is, none-some, nibbled-some, nibbled-digit, bytes-head, bytes-tail, bytes-cons, bytes-none}
 use Rattle.forms.proofs.Hexes.{lawful-hex}
@@ -173,3 +173,26 @@ unfolding word
 lawful-word text f =
     lawful-iff (λ g w (_, u, v, eu, (eg, ev), e). (eg, e ∙ simp (eu, ev, append-nil))) (λ g w (eg, e). (tt, text, [], refl, (eg, refl), e ∙ sym (append-nil text)))
     (lawful-bind (lawful-literal text) (λ _. lawful-pure f))
+
+-- two byte strings, and what stands before each
+abbrev pub StringsWord : List ℕ → List ℕ → List ℕ × List ℕ → List ℕ → Type 0
+StringsWord before between p w = Bytes (p .0) × Bytes (p .1) × (w ≡ before ++ hexed (p .0) ++ (codes ")" ++ between) ++ hexed (p .1) ++ codes "))")
+
+pub lawful-strings : (before between : List ℕ) → Lawful (StringsWord before between) (strings before between)
+unfolding strings
+lawful-strings before between =
+    lawful-iff (λ p w (_, u₀, v₀, e₀, (a, u₁, v₁, (oka, e₁), (_, u₂, v₂, e₂, (b, u₃, v₃, (okb, e₃), (_, u₄, v₄, e₄, (ep, e₅), z₄), z₃), z₂), z₁), z₀).
+    subst (λ x. StringsWord before between x w) (sym ep) (oka, okb, z₀ ∙ simp (z₁, z₂, z₃, z₄, e₀, e₁, e₂, e₃, e₄, e₅, append-assoc)))
+    (λ p w (oka, okb, e). (tt, before, _, refl, (p .0, _, _, (oka, refl), (tt, between, _, refl, (p .1, _, _, (okb, refl), (tt, codes ")", [], refl, (refl, refl), refl), refl), refl), refl), e ∙ simp append-assoc))
+    (lawful-bind (lawful-literal before) (λ _. lawful-bind (lawful-hex 41 bracket) (λ a. lawful-bind (lawful-literal between) (λ _. lawful-bind (lawful-hex 41 bracket) (λ b. lawful-bind (lawful-literal (codes ")")) (λ _. lawful-pure (a, b)))))))
+
+-- a form of two byte strings
+abbrev pub FormWord : {F : Type 0} → List ℕ → List ℕ → (List ℕ → List ℕ → F) → F → List ℕ → Type 0
+FormWord before between form f w = (a b : List ℕ) × (f ≡ form a b) × StringsWord before between (a, b) w
+
+pub lawful-of-strings : {F : Type 0} (before between : List ℕ) (form : List ℕ → List ℕ → F) → Lawful (FormWord before between form) (ofStrings before between form)
+unfolding ofStrings
+lawful-of-strings before between form =
+    lawful-iff (λ f w (p, u, v, (oka, okb, eu), (ef, ev), e). (p .0, p .1, ef, (oka, okb, e ∙ simp (ev, append-nil) eu)))
+    (λ f w (a, b, ef, v). ((a, b), w, [], v, (ef, refl), sym (append-nil w)))
+    (lawful-bind (lawful-strings before between) (λ p. lawful-pure (form (p .0) (p .1))))

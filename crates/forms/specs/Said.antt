@@ -4,12 +4,12 @@ use Prim.Native.Nat.{ℕ}
 use Rattle.std.specs.declared.result.Result.{Result}
 use Rattle.std.specs.declared.result.Result.the-variants.{Ok, Err}
 use Rattle.forms.specs.declared.command.Command.{Command}
-use Rattle.forms.specs.declared.command.Command.the-variants.{Draw, GiveUp}
+use Rattle.forms.specs.declared.command.Command.the-variants.{Draw, GiveUp, Seal, Receive}
 use Rattle.forms.specs.declared.hex.Hex.{Hex}
 use Rattle.forms.specs.declared.opening.Opening.{Opening}
 use Rattle.forms.specs.declared.unread.Unread.{Unread}
 use Rattle.forms.specs.Hex.{unhexed}
-use Rattle.forms.specs.Spelling.{Ends, Asked, draw, give-up}
+use Rattle.forms.specs.Spelling.{Ends, Asked, draw, give-up, seal, receive}
 
 -- the bytes that a byte string of a line stands for
 abbrev pub bytesOf : Hex → List ℕ
@@ -21,6 +21,8 @@ endsOf o = record { pile = o .pile; hash-key = bytesOf (o .«hash_key»); expand
 abbrev pub askedOf : Command → Asked
 askedOf Draw = draw
 askedOf GiveUp = give-up
+askedOf (Seal header text) = seal (bytesOf header) (bytesOf text)
+askedOf (Receive header «record») = receive (bytesOf header) (bytesOf «record»)
 
 -- a form f, where `of` f is what it says, or a column
 abbrev pub said : {X Y : Type 0} → (X → Y) → Result X Unread → Result Y ℕ

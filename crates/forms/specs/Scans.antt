@@ -151,3 +151,11 @@ ends = bind (literal (codes "(ends (pile ")) (λ _. bind (one piled) (λ pile. b
 -- a form that is one word
 unfoldable pub word : {F : Type 0} → List ℕ → F → Scan F
 word text f = bind (literal text) (λ _. pure f)
+
+-- two byte strings, each in brackets, and the bracket that closes the form: what stands before each is given
+unfoldable pub strings : List ℕ → List ℕ → Scan (List ℕ × List ℕ)
+strings before between = bind (literal before) (λ _. bind (hex 41) (λ first. bind (literal between) (λ _. bind (hex 41) (λ second. bind (literal (codes ")")) (λ _. pure (first, second))))))
+
+-- a form of two byte strings
+unfoldable pub ofStrings : {F : Type 0} → List ℕ → List ℕ → (List ℕ → List ℕ → F) → Scan F
+ofStrings before between form = bind (strings before between) (λ p. pure (form (p .0) (p .1)))

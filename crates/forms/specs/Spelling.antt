@@ -38,7 +38,13 @@ pub record Opens (o : Ends) (w : List ℕ) : Type 0 where
 pub data Asked : Type 0 where
   draw : Asked
   give-up : Asked
+  -- the header and the text
+  seal : List ℕ → List ℕ → Asked
+  -- the header and the record
+  receive : List ℕ → List ℕ → Asked
 
 abbrev pub Asks : Asked → List ℕ → Type 0
 Asks draw w = w ≡ codes "(draw)"
 Asks give-up w = w ≡ codes "(give-up)"
+Asks (seal header text) w = Bytes header × Bytes text × (w ≡ codes "(seal (header " ++ hexed header ++ codes ") (text " ++ hexed text ++ codes "))")
+Asks (receive header «record») w = Bytes header × Bytes «record» × (w ≡ codes "(receive (header " ++ hexed header ++ codes ") (record " ++ hexed «record» ++ codes "))")

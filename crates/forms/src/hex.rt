@@ -1,16 +1,22 @@
-// A byte string as it stands in a line.
+// A byte string as it stands in a line: how it is read, and how it is written.
 ghost use mathlib.Core.Path.{_≡_};
-ghost use Prim.Native.Nat.{_+_, _*_};
+ghost use Prim.Native.Nat.{_+_, _*_, _<_};
 ghost use lib.ListN.{length};
+ghost use Rattle.std.specs.declared.option.Option.the-variants.{Some};
 ghost use Rattle.forms.specs.Decoding.{decoded, placed};
-ghost use Rattle.forms.specs.Hex.{nibbled, worth};
+ghost use Rattle.forms.specs.Hex.{nibbled, worth, digit as digitOf, hexed};
 ghost use Rattle.forms.specs.Said.{bytesOf};
+use std::fmt;
 
 // A byte string in hexadecimal, or `-` for none: what was read of a line, which it borrows.
 #[derive(Clone, Copy)]
 pub struct Hex<'a> {
     pub(crate) digits: &'a [u8],
 }
+
+// A byte string that is written in lower-case hexadecimal, or `-` for none.
+#[derive(Clone, Copy)]
+pub struct Hexadecimal<'a>(pub &'a [u8]);
 
 // An area is too short for a byte string, which needs this length.
 #[derive(Clone, Copy, PartialEq, Eq, Debug)]
@@ -27,6 +33,17 @@ pub(crate) fn nibble(c: u8) -> Option<u8>
         b'a'..=b'f' => Some(c - b'a' + 10),
         _ => None,
     }
+}
+
+// The digit of a number below 16.
+fn digit(value: u8) -> u8
+    requires { ⌜ value < 16 ⌝ }
+    ensures { λ r. ⌜ r ≡ digitOf value ⌝ }
+{
+    if value < 10 {
+        return b'0' + value;
+    }
+    b'a' + (value - 10)
 }
 
 // The byte that two digits stand for.
@@ -58,5 +75,21 @@ impl Hex<'_> {
             area[i] = pair(digits[2 * i], digits[2 * i + 1]);
         }
         Ok(needed)
+    }
+}
+
+pub impl fmt::Display for Hexadecimal<'_> as HexadecimalDisplay {
+    ghost shown = { λ d. Some (hexed (d .0 .now)) };
+
+    fn fmt<W: fmt::Write>(&self, f: &mut fmt::Formatter<W>) -> fmt::Result {
+        let bytes = self.0;
+        if bytes.is_empty() {
+            return f.write_str("-");
+        }
+        for b in bytes {
+            f.write_char(char::from(digit(*b / 16)))?;
+            f.write_char(char::from(digit(*b % 16)))?;
+        }
+        Ok(())
     }
 }
