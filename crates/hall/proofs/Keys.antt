@@ -1,24 +1,27 @@
 -- A key that was taken out of a line.
-use Prim.Native.Nat.{ℕ, _-_, _≤_}
-use mathlib.Core.List.{List, _++_}
-use mathlib.Core.Logic.{_⊎_, inl, inr}
-use mathlib.Core.Path.{_≡_, refl, sym, ap, _∙_}
+use Prim.Native.Nat.{ℕ, _≤_}
+use mathlib.Core.List.{List}
+use mathlib.Core.Path.{_≡_, sym, ap, _∙_}
 use native.Mathlib.Omega.{arith}
 use lib.Dec.{leb}
-use lib.ListN.{length, drop, replicate}
-use Rattle.std.proofs.shelf.Lists.{drop-replicate}
-use Rattle.std.proofs.shelf.Tests.{cond-true, eq-eqb, le-leb, ne-eqb}
-use Rattle.std.specs.declared.result.Result.the-variants.{Ok}
-use Rattle.forms.specs.Decoding.{placed}
-use Rattle.hall.specs.Keys.{keyed}
+use lib.ListN.{length, take}
+use Rattle.std.proofs.shelf.Tests.{cond-true, le-leb}
+use Rattle.std.specs.declared.result.Result.{Result}
+use Rattle.std.specs.declared.result.Result.the-variants.{Ok, Err}
+use Rattle.refusals.specs.declared.KeyLength.{KeyLength}
+use Rattle.forms.specs.Decoding.{decoded, placed}
+use Rattle.forms.specs.declared.hex.TooShort.{TooShort}
+use Rattle.hall.proofs.Areas.{filled-long, filled-front, decoded-fits}
+use Rattle.hall.specs.Keys.{wrong, upTo}
 
--- the bytes at the front of 32 zero bytes
-placed-zeros : (b : List ℕ) → length b ≤ 32 → placed b (replicate 32 0) ≡ b ++ replicate (32 - length b) 0
-placed-zeros b n =
-    cond-true (leb (length b) 32) (b ++ drop (length b) (replicate 32 0)) (replicate 32 0) (le-leb (length b) 32 n)
-    ∙ ap (λ (x : List ℕ). b ++ x) (drop-replicate (length b) 32 0)
+module _ (b area after : List ℕ) (n : ℕ) (r : Result ℕ TooShort) (ok : r ≡ Ok n) (answer : r ≡ decoded b (length area)) (is : after ≡ placed b area) where
+  fits : length b ≤ length area
+  fits = decoded-fits b (length area) n r ok answer
 
-pub key-held : (short long n : ℕ) (b after : List ℕ) → short ≤ 32 → long ≤ 32 → n ≡ length b → ((n ≡ short → ⊥) × (n ≡ long)) ⊎ (n ≡ short) → after ≡ placed b (replicate 32 0) → Ok (record { bytes = after; length = n }) ≡ keyed short long b
-key-held short long n b after s l e (inl (p, q)) a =
-    rw (a ∙ placed-zeros b (omega arith), e, ne-eqb (length b) short (λ h. p (e ∙ h)), eq-eqb (length b) long (sym e ∙ q)) refl
-key-held short long n b after s l e (inr p) a = rw (a ∙ placed-zeros b (omega arith), e, eq-eqb (length b) short (sym e ∙ p)) refl
+  pub key-answer : length area ≡ 32 → Ok n ≡ upTo 32 b
+  key-answer size =
+      let h = fits in
+      ap Ok (filled-long b area after n h r ok answer is) ∙ sym (cond-true (leb (length b) 32) (Ok (length b)) (Err (wrong b)) (le-leb (length b) 32 (omega arith)))
+
+  pub key-front : (k : ℕ) (q : Result ℕ KeyLength) → q ≡ Ok n → q ≡ Ok k → take k after ≡ b
+  key-front k q e f = let g : k ≡ n = cc in ap (λ m. take m after) g ∙ filled-front b area after n fits r ok answer is

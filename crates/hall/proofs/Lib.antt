@@ -1,1 +1,4 @@
+mod Areas
+mod Fitting
 mod Keys
+mod Replying

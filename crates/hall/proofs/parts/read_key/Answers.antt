@@ -1,7 +1,10 @@
+use mathlib.Core.Path.{refl}
 use Rattle.forms.specs.Said.{bytesOf}
-use Rattle.hall.proofs.Keys.{key-held}
+use Rattle.hall.proofs.Keys.{key-answer, key-front}
 use Rattle.hall.proofs.parts.read_key.Needs as need
 
-pub returns : need.returns
-returns c =
-    key-held (c .args .short) (c .args .long) (c .len-length .result) (bytesOf (c .args .hex .now)) (c .decode .last .area) (c .pre .0) (c .pre .1) (c .len-length .ensures) (c .else-length-short .either) (c .decode .ensures .after)
+pub returns-in-Ok : need.returns-in-Ok
+returns-in-Ok c = record {
+  answer = key-answer (bytesOf (c .args .hex .now)) (c .args .area .now) (c .decode .last .area) (c .in-Ok .length) (c .decode .result) (c .in-Ok .is) (c .decode .ensures .answer) (c .decode .ensures .after) (c .told-area);
+  front = λ k e. key-front (bytesOf (c .args .hex .now)) (c .args .area .now) (c .decode .last .area) (c .in-Ok .length) (c .decode .result) (c .in-Ok .is) (c .decode .ensures .answer) (c .decode .ensures .after) k _ refl e;
+}
