@@ -64,6 +64,7 @@ impl<C, J> Sender<C, J> {
         ensures parts { λ _. ⌜ partsOf (now (self .exit)) ≡ partsOf (now (self .entry)) ⌝ }
     {
         if self.outstanding != Some(ticket.number) {
+            // The ticket that is out, if any, stays out.
             let fault = SenderFault::WrongTicket(ticket.number);
             return Err(Returned { ticket, fault });
         }
