@@ -1,4 +1,6 @@
 // AES enciphering, FIPS 197, with keys of 16 and 32 bytes.
+#![tactic(auto)]
+
 ghost use Rattle.std.specs.Prelude.{◌≡◌};
 ghost use Rattle.aes.specs.Cipher.{aes as aes_of};
 ghost use Rattle.aes.specs.Examples.{key128, key256, plaintext};

@@ -1,4 +1,6 @@
 // The tables of AES: the S-box, and the word that SubBytes and MixColumns make of a byte.
+#![tactic(auto)]
+
 ghost use Rattle.std.specs.Prelude.{◌≡◌};
 ghost use Rattle.aes_tables.specs.Field.{Inverse, inverse, sbox};
 ghost use Rattle.aes_tables.specs.Tables.{t0 as t0_of};

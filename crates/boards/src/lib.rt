@@ -1,4 +1,6 @@
 // The calls of a board, for C and Rust to link.
+#![tactic(auto)]
+
 mod answer;
 mod brought;
 mod fault;

@@ -1,4 +1,6 @@
 // ChaCha20, RFC 8439: the block function; and HChaCha20.
+#![tactic(auto)]
+
 ghost use Rattle.std.specs.Prelude.{◌≡◌, [], ◌∷◌};
 ghost use Rattle.chacha.specs.ChaCha20.{state as state_of, block as block_of, subkey as subkey_of};
 ghost use Rattle.chacha.specs.Laws.{Laws};

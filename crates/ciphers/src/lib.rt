@@ -1,4 +1,6 @@
 // Wide ciphers: a string of bytes to one of the same length, under a tweak.
+#![tactic(auto)]
+
 mod ddd;
 mod fault;
 mod piles;

@@ -1,4 +1,5 @@
 // Tests of the two piles: values, there and back, and refusals at the edges of their lengths.
+#![tactic(auto)]
 
 #[cfg(test)]
 mod tests {

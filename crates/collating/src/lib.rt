@@ -1,4 +1,6 @@
 // From a line that holds a question and its expected outcome to whether the library gives that outcome.
+#![tactic(auto)]
+
 mod answering;
 mod fields;
 mod judging;

@@ -1,4 +1,6 @@
 // The two ends of a line: tickets and the sending end.
+#![tactic(auto)]
+
 mod counter;
 mod counting;
 mod fault;

@@ -1,4 +1,5 @@
 // Tests of the ends at the edges of their numbers.
+#![tactic(auto)]
 
 #[cfg(test)]
 mod tests {

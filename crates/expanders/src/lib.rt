@@ -1,4 +1,6 @@
 // Expanders: from a domain, a tweak and 16 bytes to a long sequence.
+#![tactic(auto)]
+
 mod aes;
 mod blocks;
 mod chacha;

@@ -1,4 +1,5 @@
 // Tests of the expanders: values, stretches against the whole sequence, and refusals at the edges; and of ChaCha20 as a stream cipher.
+#![tactic(auto)]
 
 #[cfg(test)]
 mod tests {

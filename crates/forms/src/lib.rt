@@ -1,4 +1,6 @@
 // The lines of hallrun: how they are read, and how answers are written.
+#![tactic(auto)]
+
 pub mod answer;
 pub mod command;
 pub mod hex;

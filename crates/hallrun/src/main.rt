@@ -1,4 +1,6 @@
 // Reads lines from standard input, and answers each with a line on standard output.
+#![tactic(auto)]
+
 use ciphers::WideCipher;
 use forms::Answer;
 use hall::{Hall, Opened, open};

@@ -1,4 +1,6 @@
 // Keyed hashes: the trait, POLYVAL and AES-CMAC.
+#![tactic(auto)]
+
 ghost use Rattle.hashes.specs.Known.{Known};
 ghost use Rattle.hashes.specs.Laws.{Laws};
 

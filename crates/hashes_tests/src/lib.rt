@@ -1,4 +1,6 @@
 // Worked values of the keyed hashes: those of RFC 4493 as theorems, and both hashes run.
+#![tactic(auto)]
+
 ghost use Rattle.hashes_tests.specs.Examples.{Examples};
 
 #[cfg(test)]

@@ -1,4 +1,6 @@
 // The lines of an input, of which none is kept past a limit.
+#![tactic(auto)]
+
 ghost use Rattle.std.specs.Prelude.{◌≡◌, ℕ, ◌<◌, ◌≤◌, [], length, ◌≢◌, slice_index};
 ghost use Rattle.lines.specs.Kept.{line_of, Kept};
 

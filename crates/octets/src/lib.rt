@@ -1,4 +1,6 @@
 // Byte strings: routines over lent slices, and the laws of byte strings.
+#![tactic(auto)]
+
 ghost use Rattle.std.specs.Prelude.{◌≡◌, length};
 ghost use Rattle.octets.specs.Strings.{Bytes, xor, xor_at, le, be, be_value, zeros, filled, same};
 ghost use Rattle.octets.specs.Laws.{Laws};

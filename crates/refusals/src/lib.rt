@@ -1,4 +1,6 @@
 // What a refusal tells, and how it is written.
+#![tactic(auto)]
+
 ghost use Rattle.std.specs.Prelude.{◌≡◌, Some};
 ghost use Rattle.refusals.specs.Table.{alone, key_length};
 ghost use Rattle.refusals.specs.Spelling.{place_name, told, spelled};

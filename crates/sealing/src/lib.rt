@@ -1,4 +1,6 @@
 // Sealing a text under a number, and opening it again, without an end.
+#![tactic(auto)]
+
 mod fault;
 mod guard;
 mod laws;

@@ -1,4 +1,6 @@
 // Reads vectors from standard input, one a line, and prints for each whether the library gives what it expects.
+#![tactic(auto)]
+
 mod count;
 
 use anyhow::anyhow;

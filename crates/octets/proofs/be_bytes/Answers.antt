@@ -5,4 +5,4 @@ use Rattle.octets.specs.Strings.{be}
 
 pub returns : goal.returns
 unfolding be
-returns c = c.to-be-bytes.ensures ∙ sym (ap reverse (le-eight c.args.n))
+returns c = c.to_be_bytes.ensures ∙ sym (ap reverse (le-eight c.args.n))

@@ -8,7 +8,7 @@ pub loop-i-init : goal.loop-i-init
 unfolding expanded
 loop-i-init c =
     let z : c.args.nk - c.args.nk ≡ 0 = omega arith in
-    (c.key-words-w.ensures ∙ ap (λ (n : ℕ). expanded c.args.nk n (key_words c.args.key.now c.args.nk)) (sym z), search rules)
+    (c.key_words-w.ensures ∙ ap (λ (n : ℕ). expanded c.args.nk n (key_words c.args.key.now c.args.nk)) (sym z), search rules)
 
 pub loop-i-preserved : goal.loop-i-preserved
 loop-i-preserved c = (

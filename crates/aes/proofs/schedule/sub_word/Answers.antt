@@ -4,4 +4,4 @@ use Rattle.aes.proofs.schedule.sub_word.Goals as goal
 
 pub returns : goal.returns
 unfolding sub_word sub_column
-returns c = c.sub-column.ensures
+returns c = c.sub_column.ensures

@@ -7,12 +7,12 @@ use Rattle.aes.proofs.schedule.temp.Goals.{else-nk-gt6-via-then-nk-gt6+else-i-nk
 
 pub returns-then-i-nk-eq0 : goal.returns-then-i-nk-eq0
 returns-then-i-nk-eq0 c =
-    ap₂ bit_xor (c.sub-word.ensures ∙ ap sub_word c.rot-word.ensures) c.rcon.ensures
+    ap₂ bit_xor (c.sub_word.ensures ∙ ap sub_word c.rot_word.ensures) c.rcon.ensures
     ∙ sym (temp-zero c.args.nk c.args.i c.args.w c.if-i-nk-eq0.true)
 
 pub returns-then-i-nk-eq4 : goal.returns-then-i-nk-eq4
 returns-then-i-nk-eq4 c =
-    c.sub-word-then-i-nk-eq4.ensures
+    c.sub_word-then-i-nk-eq4.ensures
     ∙ sym (temp-four c.args.nk c.args.i c.args.w c.if-nk-gt6.true c.if-i-nk-eq4.true)
 
 pub returns-else-nk-gt6 : goal.returns-else-nk-gt6

@@ -8,13 +8,13 @@ use Rattle.boards.proofs.sending.sidingmint_sender_seal.Goals as goal
 
 pub returns : goal.returns
 returns c =
-    let came = c.seal-with.ensures.answer in
+    let came = c.seal_with.ensures.answer in
     let s = c.args.state.now in
     record {
       sends = record {
         answer = c.answer.ensures ∙ ap answered came;
-        after = c.seal-with.ensures.after ∙ ap (λ r. leaves r (after_spent s) s) came;
-        lasting = subst (λ r. Lasts r c.seal-with.new.state) came c.seal-with.ensures.lasting;
+        after = c.seal_with.ensures.after ∙ ap (λ r. leaves r (after_spent s) s) came;
+        lasting = subst (λ r. Lasts r c.seal_with.new.state) came c.seal_with.ensures.lasting;
       };
-      puts = c.seal-with.ensures.area ∙ ap (λ r. written (line_of c.args.pile c.args.hash_key.now c.args.expander_key.now c.args.header_key.now c.args.line.now) r (λ m. record_of m c.args.header.now c.args.ticket c.args.text.now) c.args.area.now) came;
+      puts = c.seal_with.ensures.area ∙ ap (λ r. written (line_of c.args.pile c.args.hash_key.now c.args.expander_key.now c.args.header_key.now c.args.line.now) r (λ m. record_of m c.args.header.now c.args.ticket c.args.text.now) c.args.area.now) came;
     }

@@ -4,6 +4,6 @@ use Rattle.hashes.specs.Keys.{cmac_key}
 use Rattle.ciphers.proofs.Making.{expander-refused}
 use Rattle.ciphers.proofs.piles.pile_b.Goals as goal
 
-pub returns-in-err-expander : goal.returns-in-err-expander
-returns-in-err-expander c =
-    expander-refused (Keyed cmac_key c.args.hash_key.now) (ChaChaKeyed c.args.expander_key.now) c.from-residual-in-err-expander.result c.in-ok-hash.hash c.in-err-expander.field-0.0 c.from-residual-in-err-expander.ensures.1 c.in-ok-hash.ensures c.in-err-expander.ensures
+pub returns-in_err-expander : goal.returns-in_err-expander
+returns-in_err-expander c =
+    expander-refused (Keyed cmac_key c.args.hash_key.now) (ChaChaKeyed c.args.expander_key.now) c.from_residual-in_err-expander.result c.in_ok-hash.hash c.in_err-expander.field-0.0 c.from_residual-in_err-expander.ensures.1 c.in_ok-hash.ensures c.in_err-expander.ensures

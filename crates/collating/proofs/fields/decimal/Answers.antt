@@ -5,17 +5,17 @@ use Rattle.collating.proofs.fields.decimal.Goals as goal
 
 pub returns-then-c-lt48 : goal.returns-then-c-lt48
 returns-then-c-lt48 c =
-    no_number c.args.word.now (sym c.if-is-empty.ensures) c.if-word-gt-MOST-DIGITS.false (c.loop-c.invariant.2 ∙ low_digit c.args.word.now c.loop-c.c-index c.loop-c-test.true c.if-c-lt48.true)
+    no_number c.args.word.now (sym c.if-is_empty.ensures) c.if-word-gt-MOST_DIGITS.false (c.loop-c.invariant.2 ∙ low_digit c.args.word.now c.loop-c.c-index c.loop-c-test.true c.if-c-lt48.true)
 
 pub returns-then-c-gt57 : goal.returns-then-c-gt57
 returns-then-c-gt57 c =
-    no_number c.args.word.now (sym c.if-is-empty.ensures) c.if-word-gt-MOST-DIGITS.false (c.loop-c.invariant.2 ∙ high_digit c.args.word.now c.loop-c.c-index c.loop-c-test.true c.if-c-lt48.false c.if-c-gt57.true)
+    no_number c.args.word.now (sym c.if-is_empty.ensures) c.if-word-gt-MOST_DIGITS.false (c.loop-c.invariant.2 ∙ high_digit c.args.word.now c.loop-c.c-index c.loop-c-test.true c.if-c-lt48.false c.if-c-gt57.true)
 
-pub overflow-mul-value : goal.overflow-mul-value
-overflow-mul-value c = omega (arith, small-enough c.loop-c.c-index c.loop-c.value (omega arith) c.loop-c.invariant.0)
+pub overflow_mul-value : goal.overflow_mul-value
+overflow_mul-value c = omega (arith, small-enough c.loop-c.c-index c.loop-c.value (omega arith) c.loop-c.invariant.0)
 
-pub overflow-add-value : goal.overflow-add-value
-overflow-add-value c = omega (arith, small-enough c.loop-c.c-index c.loop-c.value (omega arith) c.loop-c.invariant.0)
+pub overflow_add-value : goal.overflow_add-value
+overflow_add-value c = omega (arith, small-enough c.loop-c.c-index c.loop-c.value (omega arith) c.loop-c.invariant.0)
 
 pub loop-c-preserved : goal.loop-c-preserved
 loop-c-preserved c =
@@ -28,4 +28,4 @@ loop-c-preserved c =
     )
 
 pub returns : goal.returns
-returns c = whole-number c.args.word.now (sym c.if-is-empty.ensures) c.if-word-gt-MOST-DIGITS.false c.loop-c.c-index c.loop-c.value c.loop-c-test.false c.loop-c.invariant.1 c.loop-c.invariant.2
+returns c = whole-number c.args.word.now (sym c.if-is_empty.ensures) c.if-word-gt-MOST_DIGITS.false c.loop-c.c-index c.loop-c.value c.loop-c-test.false c.loop-c.invariant.1 c.loop-c.invariant.2

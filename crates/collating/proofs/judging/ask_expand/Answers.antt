@@ -8,9 +8,9 @@ use Rattle.collating.proofs.judging.ask_expand.Goals as goal
 pub returns : goal.returns
 returns c =
     let sa = bytes_of c.args.key.now in
-    let sa' : List ℕ = take (c.in-ok-a.a - 0) c.fill.new.area in
-    let pa = c.in-ok-a.ensures in
+    let sa' : List ℕ = take (c.in_ok-a.a - 0) c.fill.new.area in
+    let pa = c.in_ok-a.ensures in
     let same =
-    ap (λ (x : List ℕ). answering (Expand c.args.kind x c.args.domain c.args.tweak.now c.args.input.now c.args.from c.args.count)) (front c.in-ok-a.a c.fill.new.area sa pa.2) in
+    ap (λ (x : List ℕ). answering (Expand c.args.kind x c.args.domain c.args.tweak.now c.args.input.now c.args.from c.args.count)) (front c.in_ok-a.a c.fill.new.area sa pa.2) in
     let h = fits sa _ _ _ _ pa.0 (told _ _ c.answer.result c.args.out.now c.answer.new.area c.answer.ensures.answer c.answer.ensures.after same) in
     record { answer = h.answer; after = h.after }

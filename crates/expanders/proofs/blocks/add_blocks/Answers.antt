@@ -8,8 +8,8 @@ use Rattle.expanders.proofs.blocks.add_blocks.Goals as goal
 pub loop-at-init : goal.loop-at-init
 loop-at-init g c = (c.requires.0, omega arith, λ n h. sym (xor-nil c.args.stretch.now))
 
-pub overflow-add-j : goal.overflow-add-j
-overflow-add-j g c =
+pub overflow_add-j : goal.overflow_add-j
+overflow_add-j g c =
     let size = g.K.Blocks.size c.args.key.now in
     let few : c.loop-at.j ≤ c.loop-at.j * size = le-mul_of_pos_right c.loop-at.j (omega arith) in
     omega (arith, mul_comm size c.loop-at.j)
@@ -26,7 +26,7 @@ loop-at-preserved g c =
       omega arith,
       omega arith,
       λ n h.
-          c.add-block.ensures
+          c.add_block.ensures
           ∙ piece-more size f (g.met.K.Blocks.long c.args.key.now c.args.seed.now) n base at j c.loop-at.skip c.loop-at.invariant.0 c.loop-at.invariant.1
           c.args.stretch.now c.loop-at.stretch (omega arith) h (c.loop-at.invariant.2 n h)
           ∙ ap (λ (m : ℕ). xor c.args.stretch.now (take m (drop base (blocks f 0 n)))) (omega arith),

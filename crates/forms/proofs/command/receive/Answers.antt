@@ -3,8 +3,8 @@ use Rattle.forms.specs.Spelling.{receive}
 use Rattle.forms.proofs.Reading.{passed_on, of-strings}
 use Rattle.forms.proofs.command.receive.Goals as goal
 
-pub returns-in-err-header : goal.returns-in-err-header
-returns-in-err-header c = passed_on asked_of _ _ _ c.from-residual.ensures.1 (of-strings receive _ _ _ _ _ c.in-err-header.ensures)
+pub returns-in_err-header : goal.returns-in_err-header
+returns-in_err-header c = passed_on asked_of _ _ _ c.from_residual.ensures.1 (of-strings receive _ _ _ _ _ c.in_err-header.ensures)
 
 pub returns : goal.returns
-returns c = of-strings receive _ _ _ _ _ c.in-ok-header.ensures
+returns c = of-strings receive _ _ _ _ _ c.in_ok-header.ensures

@@ -10,33 +10,33 @@ hex-requires c = bracket
 pub hex-requires-2 : goal.hex-requires-2
 hex-requires-2 c = bracket
 
-pub returns-in-err-literal : goal.returns-in-err-literal
+pub returns-in_err-literal : goal.returns-in_err-literal
 unfolding strings
-returns-in-err-literal c = handed _ _ _ _ _ c.from-residual.ensures.1 (bind-err _ _ _ _ c.in-err-literal.ensures)
+returns-in_err-literal c = handed _ _ _ _ _ c.from_residual.ensures.1 (bind-err _ _ _ _ c.in_err-literal.ensures)
 
-pub returns-in-err-first : goal.returns-in-err-first
+pub returns-in_err-first : goal.returns-in_err-first
 unfolding strings
-returns-in-err-first c = handed _ _ _ _ _ c.from-residual-in-err-first.ensures.1 (bind-err _ _ _ _ c.in-err-first.ensures ∙ sym (bind_ok _ _ _ _ _ c.in-ok-literal.ensures))
+returns-in_err-first c = handed _ _ _ _ _ c.from_residual-in_err-first.ensures.1 (bind-err _ _ _ _ c.in_err-first.ensures ∙ sym (bind_ok _ _ _ _ _ c.in_ok-literal.ensures))
 
-pub returns-in-err-literal-2 : goal.returns-in-err-literal-2
+pub returns-in_err-literal-2 : goal.returns-in_err-literal-2
 unfolding strings
-returns-in-err-literal-2 c =
-    handed _ _ _ _ _ c.from-residual-in-err-literal-2.ensures.1
-    (bind-err _ _ _ _ c.in-err-literal-2.ensures ∙ sym (bind_ok _ _ _ _ _ c.in-ok-literal.ensures ∙ bind_ok _ _ _ _ _ c.in-ok-first.ensures))
+returns-in_err-literal-2 c =
+    handed _ _ _ _ _ c.from_residual-in_err-literal-2.ensures.1
+    (bind-err _ _ _ _ c.in_err-literal-2.ensures ∙ sym (bind_ok _ _ _ _ _ c.in_ok-literal.ensures ∙ bind_ok _ _ _ _ _ c.in_ok-first.ensures))
 
-pub returns-in-err-second : goal.returns-in-err-second
+pub returns-in_err-second : goal.returns-in_err-second
 unfolding strings
-returns-in-err-second c =
-    handed _ _ _ _ _ c.from-residual-in-err-second.ensures.1
-    (bind-err _ _ _ _ c.in-err-second.ensures ∙ sym (bind_ok _ _ _ _ _ c.in-ok-literal.ensures ∙ bind_ok _ _ _ _ _ c.in-ok-first.ensures ∙ bind_ok _ _ _ _ _ c.in-ok-literal-2.ensures))
+returns-in_err-second c =
+    handed _ _ _ _ _ c.from_residual-in_err-second.ensures.1
+    (bind-err _ _ _ _ c.in_err-second.ensures ∙ sym (bind_ok _ _ _ _ _ c.in_ok-literal.ensures ∙ bind_ok _ _ _ _ _ c.in_ok-first.ensures ∙ bind_ok _ _ _ _ _ c.in_ok-literal-2.ensures))
 
-pub returns-in-err-literal-3 : goal.returns-in-err-literal-3
+pub returns-in_err-literal-3 : goal.returns-in_err-literal-3
 unfolding strings
-returns-in-err-literal-3 c =
-    handed _ _ _ _ _ c.from-residual-in-err-literal-3.ensures.1
-    (bind-err _ _ _ _ c.in-err-literal-3.ensures ∙ sym (bind_ok _ _ _ _ _ c.in-ok-literal.ensures ∙ bind_ok _ _ _ _ _ c.in-ok-first.ensures ∙ bind_ok _ _ _ _ _ c.in-ok-literal-2.ensures ∙ bind_ok _ _ _ _ _ c.in-ok-second.ensures))
+returns-in_err-literal-3 c =
+    handed _ _ _ _ _ c.from_residual-in_err-literal-3.ensures.1
+    (bind-err _ _ _ _ c.in_err-literal-3.ensures ∙ sym (bind_ok _ _ _ _ _ c.in_ok-literal.ensures ∙ bind_ok _ _ _ _ _ c.in_ok-first.ensures ∙ bind_ok _ _ _ _ _ c.in_ok-literal-2.ensures ∙ bind_ok _ _ _ _ _ c.in_ok-second.ensures))
 
 pub returns : goal.returns
 unfolding strings
 returns c =
-    sym (bind_ok _ _ _ _ _ c.in-ok-literal.ensures ∙ bind_ok _ _ _ _ _ c.in-ok-first.ensures ∙ bind_ok _ _ _ _ _ c.in-ok-literal-2.ensures ∙ bind_ok _ _ _ _ _ c.in-ok-second.ensures ∙ bind_ok _ _ _ _ _ c.in-ok-literal-3.ensures)
+    sym (bind_ok _ _ _ _ _ c.in_ok-literal.ensures ∙ bind_ok _ _ _ _ _ c.in_ok-first.ensures ∙ bind_ok _ _ _ _ _ c.in_ok-literal-2.ensures ∙ bind_ok _ _ _ _ _ c.in_ok-second.ensures ∙ bind_ok _ _ _ _ _ c.in_ok-literal-3.ensures)

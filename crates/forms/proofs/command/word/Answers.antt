@@ -3,10 +3,10 @@ use Rattle.forms.specs.Scans.{word}
 use Rattle.forms.proofs.Rests.{bind_ok, bind-err, handed}
 use Rattle.forms.proofs.command.word.Goals as goal
 
-pub returns-in-err-literal : goal.returns-in-err-literal
+pub returns-in_err-literal : goal.returns-in_err-literal
 unfolding word
-returns-in-err-literal c = handed _ _ _ _ _ c.from-residual.ensures.1 (bind-err _ _ _ _ c.in-err-literal.ensures)
+returns-in_err-literal c = handed _ _ _ _ _ c.from_residual.ensures.1 (bind-err _ _ _ _ c.in_err-literal.ensures)
 
 pub returns : goal.returns
 unfolding word
-returns c = sym (bind_ok _ _ _ _ _ c.in-ok-literal.ensures)
+returns c = sym (bind_ok _ _ _ _ _ c.in_ok-literal.ensures)

@@ -3,33 +3,33 @@ use Rattle.forms.specs.Scans.{ends}
 use Rattle.forms.proofs.Rests.{bind_ok, bind-err, handed}
 use Rattle.forms.proofs.opening.ends.Goals as goal
 
-pub returns-in-err-literal : goal.returns-in-err-literal
+pub returns-in_err-literal : goal.returns-in_err-literal
 unfolding ends
-returns-in-err-literal c = handed _ _ _ _ _ c.from-residual.ensures.1 (bind-err _ _ _ _ c.in-err-literal.ensures)
+returns-in_err-literal c = handed _ _ _ _ _ c.from_residual.ensures.1 (bind-err _ _ _ _ c.in_err-literal.ensures)
 
-pub returns-in-err-pile : goal.returns-in-err-pile
+pub returns-in_err-pile : goal.returns-in_err-pile
 unfolding ends
-returns-in-err-pile c = handed _ _ _ _ _ c.from-residual-in-err-pile.ensures.1 (bind-err _ _ _ _ c.in-err-pile.ensures ∙ sym (bind_ok _ _ _ _ _ c.in-ok-literal.ensures))
+returns-in_err-pile c = handed _ _ _ _ _ c.from_residual-in_err-pile.ensures.1 (bind-err _ _ _ _ c.in_err-pile.ensures ∙ sym (bind_ok _ _ _ _ _ c.in_ok-literal.ensures))
 
-pub returns-in-err-hash-key : goal.returns-in-err-hash-key
+pub returns-in_err-hash_key : goal.returns-in_err-hash_key
 unfolding ends
-returns-in-err-hash-key c =
-    handed _ _ _ _ _ c.from-residual-in-err-hash-key.ensures.1
-    (bind-err _ _ _ _ c.in-err-hash-key.ensures ∙ sym (bind_ok _ _ _ _ _ c.in-ok-literal.ensures ∙ bind_ok _ _ _ _ _ c.in-ok-pile.ensures))
+returns-in_err-hash_key c =
+    handed _ _ _ _ _ c.from_residual-in_err-hash_key.ensures.1
+    (bind-err _ _ _ _ c.in_err-hash_key.ensures ∙ sym (bind_ok _ _ _ _ _ c.in_ok-literal.ensures ∙ bind_ok _ _ _ _ _ c.in_ok-pile.ensures))
 
-pub returns-in-err-line : goal.returns-in-err-line
+pub returns-in_err-line : goal.returns-in_err-line
 unfolding ends
-returns-in-err-line c =
-    handed _ _ _ _ _ c.from-residual-in-err-line.ensures.1
-    (bind-err _ _ _ _ c.in-err-line.ensures ∙ sym (bind_ok _ _ _ _ _ c.in-ok-literal.ensures ∙ bind_ok _ _ _ _ _ c.in-ok-pile.ensures ∙ bind_ok _ _ _ _ _ c.in-ok-hash-key.ensures))
+returns-in_err-line c =
+    handed _ _ _ _ _ c.from_residual-in_err-line.ensures.1
+    (bind-err _ _ _ _ c.in_err-line.ensures ∙ sym (bind_ok _ _ _ _ _ c.in_ok-literal.ensures ∙ bind_ok _ _ _ _ _ c.in_ok-pile.ensures ∙ bind_ok _ _ _ _ _ c.in_ok-hash_key.ensures))
 
-pub returns-in-err-first : goal.returns-in-err-first
+pub returns-in_err-first : goal.returns-in_err-first
 unfolding ends
-returns-in-err-first c =
-    handed _ _ _ _ _ c.from-residual-in-err-first.ensures.1
-    (bind-err _ _ _ _ c.in-err-first.ensures ∙ sym (bind_ok _ _ _ _ _ c.in-ok-literal.ensures ∙ bind_ok _ _ _ _ _ c.in-ok-pile.ensures ∙ bind_ok _ _ _ _ _ c.in-ok-hash-key.ensures ∙ bind_ok _ _ _ _ _ c.in-ok-line.ensures))
+returns-in_err-first c =
+    handed _ _ _ _ _ c.from_residual-in_err-first.ensures.1
+    (bind-err _ _ _ _ c.in_err-first.ensures ∙ sym (bind_ok _ _ _ _ _ c.in_ok-literal.ensures ∙ bind_ok _ _ _ _ _ c.in_ok-pile.ensures ∙ bind_ok _ _ _ _ _ c.in_ok-hash_key.ensures ∙ bind_ok _ _ _ _ _ c.in_ok-line.ensures))
 
 pub returns : goal.returns
 unfolding ends
 returns c =
-    sym (bind_ok _ _ _ _ _ c.in-ok-literal.ensures ∙ bind_ok _ _ _ _ _ c.in-ok-pile.ensures ∙ bind_ok _ _ _ _ _ c.in-ok-hash-key.ensures ∙ bind_ok _ _ _ _ _ c.in-ok-line.ensures ∙ bind_ok _ _ _ _ _ c.in-ok-first.ensures)
+    sym (bind_ok _ _ _ _ _ c.in_ok-literal.ensures ∙ bind_ok _ _ _ _ _ c.in_ok-pile.ensures ∙ bind_ok _ _ _ _ _ c.in_ok-hash_key.ensures ∙ bind_ok _ _ _ _ _ c.in_ok-line.ensures ∙ bind_ok _ _ _ _ _ c.in_ok-first.ensures)

@@ -13,26 +13,26 @@ hex-requires-2 c = space
 pub hex-requires-3 : goal.hex-requires-3
 hex-requires-3 c = bracket
 
-pub returns-in-err-literal : goal.returns-in-err-literal
+pub returns-in_err-literal : goal.returns-in_err-literal
 unfolding keys
-returns-in-err-literal c = handed _ _ _ _ _ c.from-residual.ensures.1 (bind-err _ _ _ _ c.in-err-literal.ensures)
+returns-in_err-literal c = handed _ _ _ _ _ c.from_residual.ensures.1 (bind-err _ _ _ _ c.in_err-literal.ensures)
 
-pub returns-in-err-hash : goal.returns-in-err-hash
+pub returns-in_err-hash : goal.returns-in_err-hash
 unfolding keys
-returns-in-err-hash c = handed _ _ _ _ _ c.from-residual-in-err-hash.ensures.1 (bind-err _ _ _ _ c.in-err-hash.ensures ∙ sym (bind_ok _ _ _ _ _ c.in-ok-literal.ensures))
+returns-in_err-hash c = handed _ _ _ _ _ c.from_residual-in_err-hash.ensures.1 (bind-err _ _ _ _ c.in_err-hash.ensures ∙ sym (bind_ok _ _ _ _ _ c.in_ok-literal.ensures))
 
-pub returns-in-err-expander : goal.returns-in-err-expander
+pub returns-in_err-expander : goal.returns-in_err-expander
 unfolding keys
-returns-in-err-expander c =
-    handed _ _ _ _ _ c.from-residual-in-err-expander.ensures.1
-    (bind-err _ _ _ _ c.in-err-expander.ensures ∙ sym (bind_ok _ _ _ _ _ c.in-ok-literal.ensures ∙ bind_ok _ _ _ _ _ c.in-ok-hash.ensures))
+returns-in_err-expander c =
+    handed _ _ _ _ _ c.from_residual-in_err-expander.ensures.1
+    (bind-err _ _ _ _ c.in_err-expander.ensures ∙ sym (bind_ok _ _ _ _ _ c.in_ok-literal.ensures ∙ bind_ok _ _ _ _ _ c.in_ok-hash.ensures))
 
-pub returns-in-err-header : goal.returns-in-err-header
+pub returns-in_err-header : goal.returns-in_err-header
 unfolding keys
-returns-in-err-header c =
-    handed _ _ _ _ _ c.from-residual-in-err-header.ensures.1
-    (bind-err _ _ _ _ c.in-err-header.ensures ∙ sym (bind_ok _ _ _ _ _ c.in-ok-literal.ensures ∙ bind_ok _ _ _ _ _ c.in-ok-hash.ensures ∙ bind_ok _ _ _ _ _ c.in-ok-expander.ensures))
+returns-in_err-header c =
+    handed _ _ _ _ _ c.from_residual-in_err-header.ensures.1
+    (bind-err _ _ _ _ c.in_err-header.ensures ∙ sym (bind_ok _ _ _ _ _ c.in_ok-literal.ensures ∙ bind_ok _ _ _ _ _ c.in_ok-hash.ensures ∙ bind_ok _ _ _ _ _ c.in_ok-expander.ensures))
 
 pub returns : goal.returns
 unfolding keys
-returns c = sym (bind_ok _ _ _ _ _ c.in-ok-literal.ensures ∙ bind_ok _ _ _ _ _ c.in-ok-hash.ensures ∙ bind_ok _ _ _ _ _ c.in-ok-expander.ensures ∙ bind_ok _ _ _ _ _ c.in-ok-header.ensures)
+returns c = sym (bind_ok _ _ _ _ _ c.in_ok-literal.ensures ∙ bind_ok _ _ _ _ _ c.in_ok-hash.ensures ∙ bind_ok _ _ _ _ _ c.in_ok-expander.ensures ∙ bind_ok _ _ _ _ _ c.in_ok-header.ensures)

@@ -5,10 +5,10 @@ use Rattle.sealing.proofs.plain_open.open.Goals as goal
 
 pub returns : goal.returns
 returns g c =
-    let kept : length c.open-in.new.work ≡ length c.args.work.now = search rules in
+    let kept : length c.open_in.new.work ≡ length c.args.work.now = search rules in
     record {
-      answer = c.open-in.ensures.answer;
-      after = c.open-in.ensures.after;
+      answer = c.open_in.ensures.answer;
+      after = c.open_in.ensures.after;
       zeroed = c.drop-guard.ensures ∙ ap zeros kept;
-      exactly = exactly _ c.lawful.ensures c.args.header.now c.args.record.now (λ k. (c.type-inv.header k).fits) (λ k. (c.type-inv.record k).fits) (length c.args.work.now) c.args.text.now c.open-in.new.text c.open-in.result c.open-in.ensures.answer c.open-in.ensures.after;
+      exactly = exactly _ c.lawful.ensures c.args.header.now c.args.record.now (λ k. (c.type_inv.header k).fits) (λ k. (c.type_inv.record k).fits) (length c.args.work.now) c.args.text.now c.open_in.new.text c.open_in.result c.open_in.ensures.answer c.open_in.ensures.after;
     }

@@ -3,7 +3,7 @@ use Rattle.sealing.proofs.plain_seal.seal.Goals as goal
 
 pub returns : goal.returns
 returns g c = record {
-  answer = c.judge-and-write.ensures.answer;
-  after = c.judge-and-write.ensures.after;
-  sealed = seals _ c.lawful.ensures c.args.header.now (λ k. (c.type-inv.header k).fits) c.args.number c.args.text.now c.args.area.now c.judge-and-write.new.area c.judge-and-write.result (λ k. (c.type-inv.text k).fits) c.judge-and-write.ensures.answer c.judge-and-write.ensures.after;
+  answer = c.judge_and_write.ensures.answer;
+  after = c.judge_and_write.ensures.after;
+  sealed = seals _ c.lawful.ensures c.args.header.now (λ k. (c.type_inv.header k).fits) c.args.number c.args.text.now c.args.area.now c.judge_and_write.new.area c.judge_and_write.result (λ k. (c.type_inv.text k).fits) c.judge_and_write.ensures.answer c.judge_and_write.ensures.after;
 }

@@ -20,7 +20,7 @@ pub returns : goal.returns
 unfolding key_of
 returns c =
     let e : c.loop-n.n ≡ c.args.self.now.nk + 6 = omega arith in
-    c.store.ensures ∙ c.last-round.ensures
+    c.store.ensures ∙ c.last_round.ensures
     ∙ ap (λ (x : List ℕ). add_round_key (shift_rows (sub_bytes x)) c.args.self.now.words (c.args.self.now.nk + 6))
     (c.loop-n.invariant ∙ ap (λ (n : ℕ). rounds c.args.self.now.words c.args.block.now (n - 1)) e)
     ∙ whole c.args.self.now.nk c.args.self.now.words c.args.block.now c.args.self.now.scheduled

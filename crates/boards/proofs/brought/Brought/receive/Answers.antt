@@ -9,7 +9,7 @@ use Rattle.boards.proofs.brought.Brought.receive.Goals as goal
 
 pub returns-in-A : goal.returns-in-A
 returns-in-A c =
-    let e = dispatched (line_brought c.args.self.now) c.in-ok-line.field-0 (A c.in-A.line) c.in-ok-line.ensures c.in-A.is in
+    let e = dispatched (line_brought c.args.self.now) c.in_ok-line.field-0 (A c.in-A.line) c.in_ok-line.ensures c.in-A.is in
     record {
       answer = c.receive.ensures.answer ∙ ap (λ l. received l c.args.state.now c.args.header.now c.args.record.now (length c.args.work.now) (length c.args.text.now)) e;
       after = c.receive.ensures.after;
@@ -18,7 +18,7 @@ returns-in-A c =
 
 pub returns-in-B : goal.returns-in-B
 returns-in-B c =
-    let e = dispatched (line_brought c.args.self.now) c.in-ok-line.field-0 (B c.in-B.line) c.in-ok-line.ensures c.in-B.is in
+    let e = dispatched (line_brought c.args.self.now) c.in_ok-line.field-0 (B c.in-B.line) c.in_ok-line.ensures c.in-B.is in
     record {
       answer = c.receive-in-B.ensures.answer ∙ ap (λ l. received l c.args.state.now c.args.header.now c.args.record.now (length c.args.work.now) (length c.args.text.now)) e;
       after = c.receive-in-B.ensures.after;

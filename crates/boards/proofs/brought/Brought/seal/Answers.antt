@@ -8,7 +8,7 @@ use Rattle.boards.proofs.brought.Brought.seal.Goals as goal
 
 pub returns-in-A : goal.returns-in-A
 returns-in-A c =
-    let e = dispatched (line_brought c.args.self.now) c.in-ok-line.field-0 (A c.in-A.line) c.in-ok-line.ensures c.in-A.is in
+    let e = dispatched (line_brought c.args.self.now) c.in_ok-line.field-0 (A c.in-A.line) c.in_ok-line.ensures c.in-A.is in
     record {
       answer = c.seal.ensures.answer ∙ ap (λ l. sealed l c.args.number c.args.header.now c.args.text.now (length c.args.area.now)) e;
       after = c.seal.ensures.after ∙ ap (λ l. written l c.seal.result (λ m. record_of m c.args.header.now c.args.number c.args.text.now) c.args.area.now) e;
@@ -16,7 +16,7 @@ returns-in-A c =
 
 pub returns-in-B : goal.returns-in-B
 returns-in-B c =
-    let e = dispatched (line_brought c.args.self.now) c.in-ok-line.field-0 (B c.in-B.line) c.in-ok-line.ensures c.in-B.is in
+    let e = dispatched (line_brought c.args.self.now) c.in_ok-line.field-0 (B c.in-B.line) c.in_ok-line.ensures c.in-B.is in
     record {
       answer = c.seal-in-B.ensures.answer ∙ ap (λ l. sealed l c.args.number c.args.header.now c.args.text.now (length c.args.area.now)) e;
       after = c.seal-in-B.ensures.after ∙ ap (λ l. written l c.seal-in-B.result (λ m. record_of m c.args.header.now c.args.number c.args.text.now) c.args.area.now) e;

@@ -9,20 +9,20 @@ use Rattle.boards.proofs.brought.Brought.seal_with.Goals as goal
 
 pub returns-in-A : goal.returns-in-A
 returns-in-A c =
-    let e = dispatched (line_brought c.args.self.now) c.in-ok-line.field-0 (A c.in-A.line) c.in-ok-line.ensures c.in-A.is in
+    let e = dispatched (line_brought c.args.self.now) c.in_ok-line.field-0 (A c.in-A.line) c.in_ok-line.ensures c.in-A.is in
     record {
-      answer = c.seal-with.ensures.answer ∙ ap (λ l. sealed_with l c.args.state.now c.args.ticket c.args.header.now c.args.text.now (length c.args.area.now)) e;
-      after = c.seal-with.ensures.after;
-      lasting = c.seal-with.ensures.lasting;
-      area = c.seal-with.ensures.area ∙ ap (λ l. written l c.seal-with.result (λ m. record_of m c.args.header.now c.args.ticket c.args.text.now) c.args.area.now) e;
+      answer = c.seal_with.ensures.answer ∙ ap (λ l. sealed_with l c.args.state.now c.args.ticket c.args.header.now c.args.text.now (length c.args.area.now)) e;
+      after = c.seal_with.ensures.after;
+      lasting = c.seal_with.ensures.lasting;
+      area = c.seal_with.ensures.area ∙ ap (λ l. written l c.seal_with.result (λ m. record_of m c.args.header.now c.args.ticket c.args.text.now) c.args.area.now) e;
     }
 
 pub returns-in-B : goal.returns-in-B
 returns-in-B c =
-    let e = dispatched (line_brought c.args.self.now) c.in-ok-line.field-0 (B c.in-B.line) c.in-ok-line.ensures c.in-B.is in
+    let e = dispatched (line_brought c.args.self.now) c.in_ok-line.field-0 (B c.in-B.line) c.in_ok-line.ensures c.in-B.is in
     record {
-      answer = c.seal-with-in-B.ensures.answer ∙ ap (λ l. sealed_with l c.args.state.now c.args.ticket c.args.header.now c.args.text.now (length c.args.area.now)) e;
-      after = c.seal-with-in-B.ensures.after;
-      lasting = c.seal-with-in-B.ensures.lasting;
-      area = c.seal-with-in-B.ensures.area ∙ ap (λ l. written l c.seal-with-in-B.result (λ m. record_of m c.args.header.now c.args.ticket c.args.text.now) c.args.area.now) e;
+      answer = c.seal_with-in-B.ensures.answer ∙ ap (λ l. sealed_with l c.args.state.now c.args.ticket c.args.header.now c.args.text.now (length c.args.area.now)) e;
+      after = c.seal_with-in-B.ensures.after;
+      lasting = c.seal_with-in-B.ensures.lasting;
+      area = c.seal_with-in-B.ensures.area ∙ ap (λ l. written l c.seal_with-in-B.result (λ m. record_of m c.args.header.now c.args.ticket c.args.text.now) c.args.area.now) e;
     }

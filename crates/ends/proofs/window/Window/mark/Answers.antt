@@ -6,8 +6,8 @@ use Rattle.ends.specs.Window.{window_of}
 use Rattle.ends.proofs.window.Window.mark.Goals as goal
 use Rattle.ends.proofs.window.Window.mark.Goals.{then-ahead-lt64, else-ahead-lt64}
 
-pub invariant-of-self : goal.invariant-of-self
-invariant-of-self c =
+pub invariant_of-self : goal.invariant_of-self
+invariant_of-self c =
     let s = c.args.self.now in
     let n = c.args.number in
     let z = c.if-ahead-lt64.shifted in
@@ -19,8 +19,8 @@ invariant-of-self c =
     let k = ahead-keeps s.highest s.marks n z c.if-number-self.true sh s.above in
     ((λ one. k.0), (k.1, tt))
 
-pub invariant-of-self-else-number-self : goal.invariant-of-self-else-number-self
-invariant-of-self-else-number-self c =
+pub invariant_of-self-else-number-self : goal.invariant_of-self-else-number-self
+invariant_of-self-else-number-self c =
     let s = c.args.self.now in
     let n = c.args.number in
     let e : (1 * 2 ^ (s.highest - n)) % 2 ^ 64 ≡ 2 ^ (s.highest - n) = one_shl (s.highest - n) 64 (omega arith) in

@@ -3,8 +3,8 @@ use Rattle.ends.proofs.Resuming.{none_below}
 use Rattle.ends.proofs.window.Window.resume.Goals as goal
 use Rattle.ends.proofs.window.Window.resume.Goals.{then-highest-ge1+else-marks-eq0, else-highest-ge1, then-highest-lt64+else-marks-highest-ne0, else-highest-lt64}
 
-pub invariant-of-result : goal.invariant-of-result
-invariant-of-result c =
+pub invariant_of-result : goal.invariant_of-result
+invariant_of-result c =
     let top = c.args.highest in
     let w = c.args.marks in
     let odd : (1 ≤ top → w % 2 ≡ 1) = elim c.if-highest-ge1.branch [

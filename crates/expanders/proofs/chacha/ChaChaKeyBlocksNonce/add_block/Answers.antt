@@ -6,5 +6,5 @@ use Rattle.expanders.proofs.chacha.ChaChaKeyBlocksNonce.add_block.Goals as goal
 
 pub returns : goal.returns
 returns c =
-    c.add-at.ensures
+    c.add_at.ensures
     ∙ ap (xor_at c.args.at c.args.stretch.now) (rest-of-block 64 c.args.skip c.block-block.result _ c.block-block.ensures (length-block _ _ _))

@@ -3,11 +3,11 @@ use Rattle.forms.specs.Hex.{nibbled}
 use Rattle.forms.proofs.Rests.{one-empty, one_none, one-some}
 use Rattle.forms.proofs.reader.Reader.digit.Goals as goal
 
-pub returns-in-default : goal.returns-in-default
-returns-in-default c = one-empty nibbled c.args.self.now.rest.now (search rules)
+pub returns-in_default : goal.returns-in_default
+returns-in_default c = one-empty nibbled c.args.self.now.rest.now (search rules)
 
-pub returns-in-default-nibble : goal.returns-in-default-nibble
-returns-in-default-nibble c = one_none nibbled c.args.self.now.rest.now (search rules) c.in-default-nibble.ensures
+pub returns-in_default-nibble : goal.returns-in_default-nibble
+returns-in_default-nibble c = one_none nibbled c.args.self.now.rest.now (search rules) c.in_default-nibble.ensures
 
 pub returns : goal.returns
 returns c = one-some nibbled c.args.self.now.rest.now _ (search rules) c.in-Some.ensures

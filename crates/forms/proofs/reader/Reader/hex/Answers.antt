@@ -3,8 +3,8 @@ use Rattle.forms.proofs.Rests.{one-shorter, handed}
 use Rattle.forms.proofs.Turns.{hex-first, hex-none, hex-more, hex-stuck, hex-closed, dash-closed, dash-stuck, hex-taken, unhexed-one, byte-shorter}
 use Rattle.forms.proofs.reader.Reader.hex.Goals as goal
 
-pub slice-bounds-result-end : goal.slice-bounds-result-end
-slice-bounds-result-end c = omega (arith, one-shorter _ _ _ _ c.if-eat.ensures)
+pub slice_bounds-result-end : goal.slice_bounds-result-end
+slice_bounds-result-end c = omega (arith, one-shorter _ _ _ _ c.if-eat.ensures)
 
 pub returns-then-eat-2 : goal.returns-then-eat-2
 returns-then-eat-2 c = ap (λ (l : List ℕ). Ok (l, c.eat-then-eat.new.self.rest.now)) (unhexed-one c.args.self.now.rest.now) ∙ dash-closed _ _ _ _ c.if-eat.ensures c.if-eat-2.ensures
@@ -12,28 +12,28 @@ returns-then-eat-2 c = ap (λ (l : List ℕ). Ok (l, c.eat-then-eat.new.self.res
 pub returns-then-eat : goal.returns-then-eat
 returns-then-eat c = dash-stuck _ _ _ _ c.if-eat.ensures c.if-eat-2.ensures
 
-pub returns-in-err-byte : goal.returns-in-err-byte
-returns-in-err-byte c = handed _ _ _ _ _ c.from-residual.ensures.1 (hex-none _ _ _ c.if-eat.ensures _ c.in-err-byte.ensures)
+pub returns-in_err-byte : goal.returns-in_err-byte
+returns-in_err-byte c = handed _ _ _ _ _ c.from_residual.ensures.1 (hex-none _ _ _ c.if-eat.ensures _ c.in_err-byte.ensures)
 
 pub loop-self-init : goal.loop-self-init
-loop-self-init c = (_, hex-first _ _ _ c.if-eat.ensures _ _ c.in-ok-byte.ensures)
+loop-self-init c = (_, hex-first _ _ _ c.if-eat.ensures _ _ c.in_ok-byte.ensures)
 
 pub loop-self-smaller : goal.loop-self-smaller
-loop-self-smaller c = byte-shorter _ _ _ _ _ c.loop-self-test.ensures c.in-ok-byte-2.ensures
+loop-self-smaller c = byte-shorter _ _ _ _ _ c.loop-self-test.ensures c.in_ok-byte-2.ensures
 
 pub loop-self-preserved : goal.loop-self-preserved
-loop-self-preserved c = (_, c.loop-self.invariant.1 ∙ hex-more _ _ _ _ c.loop-self-test.ensures _ _ c.in-ok-byte-2.ensures)
+loop-self-preserved c = (_, c.loop-self.invariant.1 ∙ hex-more _ _ _ _ c.loop-self-test.ensures _ _ c.in_ok-byte-2.ensures)
 
-pub returns-in-err-byte-2 : goal.returns-in-err-byte-2
-returns-in-err-byte-2 c = handed _ _ _ _ _ c.from-residual-in-err-byte-2.ensures.1 (hex-stuck _ _ _ _ c.loop-self-test.ensures _ c.in-err-byte-2.ensures ∙ sym c.loop-self.invariant.1)
+pub returns-in_err-byte-2 : goal.returns-in_err-byte-2
+returns-in_err-byte-2 c = handed _ _ _ _ _ c.from_residual-in_err-byte-2.ensures.1 (hex-stuck _ _ _ _ c.loop-self-test.ensures _ c.in_err-byte-2.ensures ∙ sym c.loop-self.invariant.1)
 
-pub overflow-sub-end : goal.overflow-sub-end
-overflow-sub-end c =
+pub overflow_sub-end : goal.overflow_sub-end
+overflow_sub-end c =
     let e = hex-closed _ _ _ _ c.loop-self-test.ensures ∙ sym c.loop-self.invariant.1 in
     omega (arith, (hex-taken _ c.requires _ _ _ e).0)
 
-pub overflow-sub-end-2 : goal.overflow-sub-end-2
-overflow-sub-end-2 c =
+pub overflow_sub-end-2 : goal.overflow_sub-end-2
+overflow_sub-end-2 c =
     let e = hex-closed _ _ _ _ c.loop-self-test.ensures ∙ sym c.loop-self.invariant.1 in
     omega (arith, (hex-taken _ c.requires _ _ _ e).0)
 

@@ -6,14 +6,14 @@ use Rattle.hall.proofs.hall.Hall.step.Goals as goal
 
 pub returns : goal.returns
 returns g c = record {
-  steps = steps-at _ _ _ _ _ _ _ _ _ _ c.told-work c.told-out c.step-in.ensures;
+  steps = steps-at _ _ _ _ _ _ _ _ _ _ c.told-work c.told-out c.step_in.ensures;
   zeroed = (
-    c.drop-header.ensures ∙ ap zeros (c.step-in.auto.first ∙ c.told-header),
+    c.drop-header.ensures ∙ ap zeros (c.step_in.auto.first ∙ c.told-header),
     (
-      c.drop-body.ensures ∙ ap zeros (c.step-in.auto.second ∙ c.told-body),
-      c.drop-work.ensures ∙ ap zeros (c.step-in.auto.work ∙ c.told-work),
+      c.drop-body.ensures ∙ ap zeros (c.step_in.auto.second ∙ c.told-body),
+      c.drop-work.ensures ∙ ap zeros (c.step_in.auto.work ∙ c.told-work),
     ),
   );
   promise = c.promise.ensures;
-  session = continues _ _ _ _ _ _ _ _ _ c.told-work c.step-in.ensures;
+  session = continues _ _ _ _ _ _ _ _ _ c.told-work c.step_in.ensures;
 }

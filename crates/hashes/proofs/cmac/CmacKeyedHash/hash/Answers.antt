@@ -20,11 +20,11 @@ returns c =
     let value : aes key c.if-chain-eq16.last ≡ cmac key all =
     elim c.if-chain-eq16.branch [
       | then-chain-eq16 w ↦
-          ap (aes key) (w.last-is ∙ w.add-into.ensures ∙ ap (xor sum) keys.first)
+          ap (aes key) (w.last-is ∙ w.add_into.ensures ∙ ap (xor sum) keys.first)
           ∙ cmac-complete key all sum chain.fill so chain.within w.if-chain-eq16.true
       | else-chain-eq16 w ↦
           let part : chain.fill < 16 = omega (arith, w.if-chain-eq16.false, chain.within) in
-          ap (aes key) (w.last-is ∙ w.add-into-else-chain-eq16.ensures ∙ ap₂ xor w.add-at.ensures keys.second)
+          ap (aes key) (w.last-is ∙ w.add_into-else-chain-eq16.ensures ∙ ap₂ xor w.add_at.ensures keys.second)
           ∙ cmac-incomplete key all sum chain.fill so chain.within part
     ] in
     c.encipher.ensures ∙ value

@@ -8,6 +8,6 @@ use Rattle.hashes.proofs.polyval.PolyvalBlockFunction.apply.Goals as goal
 pub returns : goal.returns
 unfolding dot_block
 returns c =
-    let a : c.from-le-bytes.result ≡ le_value c.args.block.now = c.from-le-bytes.ensures ∙ value-sixteen c.args.block.now c.told-block in
-    let b : c.from-le-bytes-2.result ≡ le_value c.args.self.now.key.bytes = c.from-le-bytes-2.ensures ∙ value-sixteen c.args.self.now.key.bytes c.args.self.now.key.long in
-    c.to-le-bytes.ensures ∙ sym (le-sixteen c.dot.result) ∙ ap (le 16) (c.dot.ensures ∙ ap₂ dot a b)
+    let a : c.from_le_bytes.result ≡ le_value c.args.block.now = c.from_le_bytes.ensures ∙ value-sixteen c.args.block.now c.told-block in
+    let b : c.from_le_bytes-2.result ≡ le_value c.args.self.now.key.bytes = c.from_le_bytes-2.ensures ∙ value-sixteen c.args.self.now.key.bytes c.args.self.now.key.long in
+    c.to_le_bytes.ensures ∙ sym (le-sixteen c.dot.result) ∙ ap (le 16) (c.dot.ensures ∙ ap₂ dot a b)

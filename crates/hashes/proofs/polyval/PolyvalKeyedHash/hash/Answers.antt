@@ -22,5 +22,5 @@ returns c =
       | then-chain-gt0 w ↦ subst Whole (sym (w.sum-is ∙ w.apply-sum.ensures)) (padded-part f all chain.sum chain.fill so w.if-chain-gt0.true chain.within)
       | else-chain-gt0 w ↦ subst Whole (sym w.sum-is) (padded-none f all chain.sum chain.fill so (omega (arith, w.if-chain-gt0.false)))
     ] in
-    let bits : c.le-bytes.result ≡ le 8 (8 * length all % 2 ^ 64) = c.le-bytes.ensures ∙ ap (le 8) (omega (arith, length-append first second)) in
-    c.apply.ensures ∙ ap f (c.add-into.ensures ∙ ap (xor sum) bits) ∙ polyval-end key all sum whole
+    let bits : c.le_bytes.result ≡ le 8 (8 * length all % 2 ^ 64) = c.le_bytes.ensures ∙ ap (le 8) (omega (arith, length-append first second)) in
+    c.apply.ensures ∙ ap f (c.add_into.ensures ∙ ap (xor sum) bits) ∙ polyval-end key all sum whole
