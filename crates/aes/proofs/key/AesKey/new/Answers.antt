@@ -12,10 +12,10 @@ sized c = (search rules, search rules, search rules, search rules)
 
 pub invariant_of-result : goal.invariant_of-result
 invariant_of-result c =
-    let s = sized c in (
-      (s.1, s.2, s.3),
-      (scheduled c.args.key.now c.key_expansion.result c.match-key.nk c.key_expansion.ensures (λ i. (c.type_inv.key i).fits) s.0, tt),
-    )
+    let s = sized c in record {
+      sized = (s.1, s.2, s.3);
+      scheduled = scheduled c.args.key.now c.key_expansion.result c.match-key.nk c.key_expansion.ensures (λ i. (c.type_inv.key i).fits) s.0;
+    }
 
 pub returns : goal.returns
 unfolding key_of

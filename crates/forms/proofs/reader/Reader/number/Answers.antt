@@ -13,18 +13,18 @@ pub returns-then-eat : goal.returns-then-eat
 returns-then-eat c = number-closed _ _ _ _ c.if-eat.ensures ∙ sym (number-first _ _ _ c.in_ok-value.ensures ∙ c.loop-count.invariant.1)
 
 pub overflow_mul-value : goal.overflow_mul-value
-overflow_mul-value c = omega (arith, small-enough c.loop-count.-count c.loop-count.value (omega (arith, c.loop-count-test.true)) c.loop-count.invariant.0)
+overflow_mul-value c = omega (arith, small-enough c.loop-count._count c.loop-count.value (omega (arith, c.loop-count-test.true)) c.loop-count.invariant.0)
 
 pub returns-in_err-value-2 : goal.returns-in_err-value-2
 returns-in_err-value-2 c = handed _ _ _ _ _ c.from_residual-in_err-value-2.ensures.1 (number-stuck _ _ _ _ c.if-eat.ensures _ c.in_err-value-2.ensures ∙ sym (number-first _ _ _ c.in_ok-value.ensures ∙ c.loop-count.invariant.1))
 
 pub overflow_add-value : goal.overflow_add-value
-overflow_add-value c = omega (arith, small-enough c.loop-count.-count c.loop-count.value (omega (arith, c.loop-count-test.true)) c.loop-count.invariant.0, decimal-small _ _ _ c.in_ok-value-2.ensures)
+overflow_add-value c = omega (arith, small-enough c.loop-count._count c.loop-count.value (omega (arith, c.loop-count-test.true)) c.loop-count.invariant.0, decimal-small _ _ _ c.in_ok-value-2.ensures)
 
 pub loop-count-preserved : goal.loop-count-preserved
 loop-count-preserved c =
     let d = decimal-small _ _ _ c.in_ok-value-2.ensures in (
-      omega (arith, ten-more c.loop-count.-count, d, c.loop-count.invariant.0),
+      omega (arith, ten-more c.loop-count._count, d, c.loop-count.invariant.0),
       c.loop-count.invariant.1 ∙ number_more _ _ _ _ c.if-eat.ensures _ _ _ (omega (arith, c.loop-count-test.true)) c.in_ok-value-2.ensures,
     )
 
