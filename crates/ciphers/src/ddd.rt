@@ -54,12 +54,12 @@ impl<H: KeyedHash, E: Expander> WideCipher for Ddd<H, E> {
 
     ghost encbytes = { λ c w s a.
         bytes-enc _ _ (H.KeyedHash.bytes c.hash)
-        (λ d i k n b. E.Expander.bytes c.expander d w i (record { known = k; tweak-long = a.tweak-long; tweak-bytes = a.tweak-bytes; input-long = n; input-bytes = b }))
+        (λ d i k n b. E.Expander.bytes c.expander d w i (record { known = k; tweak_long = a.tweak_long; tweak_bytes = a.tweak_bytes; input_long = n; input_bytes = b }))
         s a.low a.bytes };
 
     ghost decbytes = { λ c w s a.
         bytes-dec _ _ (H.KeyedHash.bytes c.hash)
-        (λ d i k n b. E.Expander.bytes c.expander d w i (record { known = k; tweak-long = a.tweak-long; tweak-bytes = a.tweak-bytes; input-long = n; input-bytes = b }))
+        (λ d i k n b. E.Expander.bytes c.expander d w i (record { known = k; tweak_long = a.tweak_long; tweak_bytes = a.tweak_bytes; input_long = n; input_bytes = b }))
         s a.low a.bytes };
 
     ghost undone = { λ c w s a. dec-enc _ _ s a.low };
