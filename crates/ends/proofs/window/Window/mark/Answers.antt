@@ -17,7 +17,7 @@ invariant_of-self c =
       | else-ahead-lt64 w ↦ subst (Shifted s.marks (n - s.highest)) (sym w.shifted-is) (none_left s.marks (n - s.highest) w.if-ahead-lt64.false)
     ] in
     let k = ahead-keeps s.highest s.marks n z c.if-number-self.true sh s.above in
-    ((λ one. k.0), (k.1, tt))
+    record { topped = λ one. k.0; above = k.1 }
 
 pub invariant_of-self-else-number-self : goal.invariant_of-self-else-number-self
 invariant_of-self-else-number-self c =
@@ -25,8 +25,9 @@ invariant_of-self-else-number-self c =
     let n = c.args.number in
     let e : (1 * 2 ^ (s.highest - n)) % 2 ^ 64 ≡ 2 ^ (s.highest - n) = one_shl (s.highest - n) 64 (omega arith) in
     let k = behind-keeps s.highest s.marks n c.requires.first c.if-number-self.false (s.topped (omega arith)) s.above in
-    let P : ℕ → Type 0 = λ x. (1 ≤ s.highest → bit_or s.marks x % 2 ≡ 1) × (((i : ℕ) → s.highest ≤ i → bit (bit_or s.marks x) i ≡ 0) × Unit {0}) in
-    subst P (sym e) ((λ one. k.0), (k.1, tt))
+    let Topped : ℕ → Type 0 = λ x. 1 ≤ s.highest → bit_or s.marks x % 2 ≡ 1 in
+    let Above : ℕ → Type 0 = λ x. (i : ℕ) → s.highest ≤ i → bit (bit_or s.marks x) i ≡ 0 in
+    record { topped = subst Topped (sym e) (λ one. k.0); above = subst Above (sym e) k.1 }
 
 pub returns-after-ahead-lt64 : goal.returns-after-ahead-lt64
 returns-after-ahead-lt64 c =

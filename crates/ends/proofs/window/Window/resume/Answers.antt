@@ -15,4 +15,4 @@ invariant_of-result c =
       | then-highest-lt64+else-marks-highest-ne0 x ↦ λ l. x.if-marks-highest-ne0.false
       | else-highest-lt64 x ↦ λ l. omega arith
     ] in
-    (odd, (none_below top w c.ranges.marks.fits below, tt))
+    record { topped = odd; above = none_below top w c.ranges.marks.fits below }
