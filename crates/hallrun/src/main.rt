@@ -63,7 +63,7 @@ fn serve<R: Read, W: Write + Drop>(
 }
 
 fn run(rt: &HostRuntime) -> anyhow::Result<()> {
-    let mut lines = Lines::new(rt.alloc(), rt.stdin(), KEPT);
+    let mut lines = Lines::new(rt.alloc(), rt.stdin(), KEPT)?;
     let mut out = BufWriter::new(rt.alloc(), rt.stdout())?;
     if !lines.advance()? {
         return Ok(());

@@ -1,7 +1,8 @@
 // The lines of an input, of which none is kept past a limit.
 #![tactic(auto)]
 
-ghost use Rattle.std.specs.Prelude.{◌≡◌, ℕ, ◌<◌, ◌≤◌, [], length, ◌≢◌, slice_index};
+ghost use Rattle.std.specs.Prelude.{◌≡◌, ℕ, ◌<◌, ◌≤◌, [], length, ◌≢◌, slice_index, IfOk, IfErr};
+ghost use Rattle.std.specs.IoError.{error_kind};
 ghost use Rattle.lines.specs.Kept.{line_of, Kept};
 
 use anyhow::anyhow;
@@ -26,19 +27,22 @@ pub struct Lines<R> {
     most: usize,
 }
 
-impl<R: Read> Lines<R> {
-    // The lines of `input`, each kept as far as `most` bytes.
-    pub fn new(heap: Global, input: R, most: usize) -> Lines<R>
-        ensures line { line_of result ≡ [] }
-        ensures most { result.most ≡ most }
+impl<R: Read + Drop> Lines<R> {
+    // The lines of `input`, each kept as far as `most` bytes. The buffer for what is read ahead is the one thing that may fail: for want of memory.
+    pub fn new(alloc: Global, input: R, most: usize) -> io::Result<Lines<R>>
+        ensures line { IfOk result (λ l. line_of l ≡ []) }
+        ensures most { IfOk result (λ l. l.most ≡ most) }
+        ensures err { IfErr result (λ e. error_kind e ≡ ErrorKind.OutOfMemory) }
     {
-        Lines {
-            input: BufReader::new(input),
-            line: Vec::new(heap),
+        Ok(Lines {
+            input: BufReader::new(alloc, input)?,
+            line: Vec::new(alloc),
             most,
-        }
+        })
     }
+}
 
+impl<R: Read> Lines<R> {
     // Whether the next line asks the input for more.
     pub fn waits(&self) -> bool {
         self.input.buffer().is_empty()

@@ -8,16 +8,16 @@ use Rattle.collating.specs.declared.question.Question.TheVariants.{Seal}
 use Rattle.collating.proofs.Recording.{by-keys}
 use Rattle.collating.proofs.answering.sealed.Goals as goal
 
-pub returns-in_ok-hash : goal.returns-in_ok-hash
-returns-in_ok-hash c =
+pub returns-in_ok-hash-in-A : goal.returns-in_ok-hash-in-A
+returns-in_ok-hash-in-A c =
     let p = c.in_ok-cipher.ensures in
     let j = c.in_ok-hash.ensures in
     let e = by-keys A p.0.1 p.1.1 j.1 c.new-line.ensures p.0.0 (λ g. cond-true (admitted (length c.args.expander_key.now)) g _ p.1.0) j.0 c.args.number c.args.header.now c.args.text.now in
     let f = ap (λ (q : Pile). answering (Seal q c.args.hash_key.now c.args.expander_key.now c.args.header_key.now c.args.line.now c.args.number c.args.header.now c.args.text.now)) (sym c.in-A.is) in
     record { answer = c.recorded.ensures.answer ∙ ap counted (e ∙ f); after = c.recorded.ensures.after ∙ ap (λ (g : Given). placed g c.args.area.now) (e ∙ f) }
 
-pub returns-in_ok-hash-2 : goal.returns-in_ok-hash-2
-returns-in_ok-hash-2 c =
+pub returns-in_ok-hash-in-B : goal.returns-in_ok-hash-in-B
+returns-in_ok-hash-in-B c =
     let p = c.in_ok-cipher-2.ensures in
     let j = c.in_ok-hash-2.ensures in
     let e = by-keys B p.0.1 p.1.1 j.1 c.new-line.ensures p.0.0 (λ g. cond-true (eqb (length c.args.expander_key.now) 32) g _ p.1.0) j.0 c.args.number c.args.header.now c.args.text.now in

@@ -5,7 +5,7 @@ use Rattle.collating.proofs.Judged.{within, compared}
 use Rattle.collating.proofs.judging.judge_vector.Goals as goal
 
 pub compare-requires : goal.compare-requires
-compare-requires c = within c.in-Some.got c.args.out.now c.ask.new.out c.told-out c.ask.array-long6 (asking (asked bytes_of c.args.vector.now.question)) c.in-Some.ensures.answer c.in-Some.ensures.after
+compare-requires c = within c.in-Some.got c.args.out.now c.ask.new.out c.told-out c.ask.array_long6 (asking (asked bytes_of c.args.vector.now.question)) c.in-Some.ensures.answer c.in-Some.ensures.after
 
 pub returns-in-Some : goal.returns-in-Some
 returns-in-Some c = record {
