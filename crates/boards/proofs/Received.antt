@@ -14,7 +14,6 @@ use Rattle.sealing.specs.declared.plain_open.Opened.{Opened}
 use Rattle.ends.specs.Receiving.{opened, windowed, examined_by, receiving}
 use Rattle.ends.specs.Sending.{Parts}
 use Rattle.ends.specs.Window.{Marks, Accepts, judging, possible}
-use Rattle.ends.specs.declared.fault.ReceiverFault.{ReceiverFault}
 use Rattle.ends.specs.declared.fault.WindowFault.{WindowFault}
 use Rattle.boards.specs.Plain.{on}
 use Rattle.boards.specs.Receiving.{marks_of, standing, received_as, received_by, Leaves}

@@ -1,5 +1,5 @@
 -- The calls of a receiving end, over the numbers that a board keeps of it.
-use Rattle.std.specs.Prelude.{◌≡◌, ℕ, true, cond, List, length, Ok, Err, Result, nat_lt}
+use Rattle.std.specs.Prelude.{◌≡◌, ℕ, cond, List, length, Ok, Err, Result, nat_lt}
 use Rattle.octets.specs.Strings.{zeros}
 use Rattle.sealing.specs.Calls.{text_of}
 use Rattle.sealing.specs.Meaning.{Meaning}

@@ -3,7 +3,7 @@ use Rattle.std.specs.Prelude.{◌≡◌, ℕ, true, cond, List, length, Some, No
 use Rattle.sealing.specs.Meaning.{Meaning}
 use Rattle.sealing.specs.Sealing.{record_of}
 use Rattle.ends.specs.Refusals.{told}
-use Rattle.ends.specs.Sending.{Counting, possible, starting, started, ticket_of, drawing, after_draw, giving_up, sealing_with, after_spending}
+use Rattle.ends.specs.Sending.{Counting, possible, starting, ticket_of, drawing, after_draw, giving_up, sealing_with}
 use Rattle.ends.specs.declared.fault.SenderFault.{SenderFault}
 use Rattle.ends.specs.declared.ticket.Returned.{Returned}
 use Rattle.ends.specs.declared.ticket.Ticket.{Ticket}

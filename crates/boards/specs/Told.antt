@@ -3,7 +3,6 @@ use Rattle.std.specs.Prelude.{ℕ, Some, None, Ok, Err, Option, Result}
 use Rattle.refusals.specs.declared.Place.{Place}
 use Rattle.refusals.specs.declared.Place.TheVariants.{Part, Sender, Expander, Cipher, Sealing, Receiver}
 use Rattle.refusals.specs.declared.Reason as table
-use Rattle.refusals.specs.declared.Refusal.{Refusal}
 use Rattle.boards.specs.declared.answer.Answer.{Answer}
 use Rattle.boards.specs.declared.answer.Done.{Done}
 use Rattle.boards.specs.declared.answer.Reason.{Reason}

@@ -1,5 +1,5 @@
 -- What a verdict says of a length.
-use Rattle.std.proofs.Common.{◌≡◌, ℕ, ◌<◌, ◌≤◌, Ok, Option, arith}
+use Rattle.std.proofs.Common.{◌≡◌, ℕ, ◌≤◌, Ok, Option, arith}
 use Rattle.std.proofs.lemmas.Bool.Decides.{nat_tests}
 use Rattle.expanders.specs.declared.fault.PastReach.{PastReach}
 use Rattle.ciphers.specs.Refusals.{verdict}

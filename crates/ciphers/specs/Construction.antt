@@ -1,9 +1,9 @@
 -- The laws of docked-double-decker, over any hash and any masking.
-use Rattle.std.specs.Prelude.{◌≡◌, ℕ, ◌+◌, ◌-◌, ◌<◌, ◌≤◌, ◌⊎◌, List, [], ◌∷◌, ◌++◌, length, take, drop, refl}
+use Rattle.std.specs.Prelude.{◌≡◌, ℕ, ◌+◌, ◌-◌, ◌≤◌, ◌⊎◌, List, [], ◌++◌, length, take, drop, refl}
 use Rattle.std.proofs.Common.{sym, ap, ◌∙◌, inl, inr, arith}
 use Rattle.std.proofs.Math.Nat.{sub-zero}
 use borrow.Rule.Slice.PartMut.{put_mid, post_of}
-use Rattle.std.proofs.lemmas.List.{append-nil, take_rest, take_all, take_at, drop_at, length-append, length-take, length-take-le, length-drop, take-append-drop, drop-drop, drop_all, take-append-le, append_assoc}
+use Rattle.std.proofs.lemmas.List.{append-nil, take_rest, take_all, take_at, drop_at, length-append, length-take, length-take-le, length-drop, take-append-drop, take-append-le, append_assoc}
 use Rattle.octets.specs.Strings.{Bytes, xor, xor_at, filled}
 use Rattle.octets.proofs.Bytes.{bytes-append, bytes_take, bytes_drop}
 use Rattle.octets.proofs.Slices.{put_mid-tail, filled-take}

@@ -1,9 +1,8 @@
 -- How a line is judged.
-use Rattle.std.specs.Prelude.{ℕ, Bool, true, false, cond, List, [], ◌∷◌, length, take, Some, None, Ok, Err, Option, Result, ◌==◌, nat_le}
+use Rattle.std.specs.Prelude.{ℕ, Bool, true, cond, List, [], ◌∷◌, length, take, Some, None, Ok, Err, Option, Result, ◌==◌, nat_le}
 use Rattle.octets.specs.Strings.{same}
 use Rattle.refusals.specs.declared.Refusal.{Refusal}
 use Rattle.collating.specs.Answers.{Given, answering, counted, placed}
-use Rattle.collating.specs.Reading.{reading}
 use Rattle.collating.specs.declared.outcome.Outcome.{Outcome}
 use Rattle.collating.specs.declared.outcome.Outcome.TheVariants.{Bytes, Refused}
 use Rattle.collating.specs.declared.question.Question.{Question}

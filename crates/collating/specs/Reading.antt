@@ -3,7 +3,6 @@ use Rattle.std.specs.Prelude.{ℕ, cond, List, Some, None, codes, Option}
 use Rattle.octets.specs.Strings.{same}
 use Rattle.forms.specs.Hex.{spelled_by}
 use Rattle.collating.specs.Words.{word, after, given, sized, number_of, number_to, pile_of, kind_of, outcome_of}
-use Rattle.collating.specs.declared.outcome.Outcome.{Outcome}
 use Rattle.collating.specs.declared.question.Question.{Question}
 use Rattle.collating.specs.declared.question.Question.TheVariants.{Aes, Polyval, Cmac, ChaCha, Subkey, Expand, Encipher, Decipher, Seal}
 use Rattle.collating.specs.declared.question.Vector.{Vector}

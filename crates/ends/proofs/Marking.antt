@@ -1,8 +1,8 @@
 -- Marks as bits: shifting them, and marking a number.
-use Rattle.std.proofs.Common.{◌≡◌, ℕ, zero, suc, ◌+◌, ◌-◌, ◌*◌, ◌/◌, ◌%◌, ◌^◌, ◌<◌, ◌≤◌, max, Bool, true, false, cond, ◌||◌, eqb, ltb, leb, ◌⊎◌, Ok, Err, sym, refl, ap, ◌∙◌, subst, inl, inr, ⊎_elim, mul_assoc, arith}
+use Rattle.std.proofs.Common.{◌≡◌, ℕ, ◌+◌, ◌-◌, ◌*◌, ◌/◌, ◌%◌, ◌^◌, ◌<◌, ◌≤◌, max, Bool, true, false, cond, ◌||◌, eqb, ltb, leb, ◌⊎◌, Ok, Err, sym, refl, ap, ◌∙◌, subst, inl, inr, ⊎_elim, mul_assoc, arith}
 use native.Mathlib.Nat.{zero-div, div-eq_of_lt, div_self}
-use lib.Bits.{bit_and, bit_or, or_shr, or_step, and_mask}
-use Rattle.std.proofs.lemmas.Nat.{pow-add, pow_pos, shl-shr, shr-shr, field_of, mod-pow-add, pow_below, one_shl}
+use lib.Bits.{bit_or, or_shr, or_step}
+use Rattle.std.proofs.lemmas.Nat.{pow-add, pow_pos, shl-shr, shr-shr, field_of, mod-pow-add, pow_below}
 use Rattle.std.proofs.lemmas.Bool.{both_ways, cases_Bool, cases_eq, cases_lt, cond-false, cond-true, eq-eqb, eqb-true, le-ltb, leb-false, lt-leb, ltb-false, or_cases, or_left, or_right}
 use Rattle.ends.specs.declared.fault.WindowFault.TheVariants.{AcceptedEarlier}
 use Rattle.ends.specs.Window.{Marks, accepted, judging, Accepts}

@@ -1,11 +1,10 @@
 -- The promise, from what is kept of a sender and of each receiver.
-use Rattle.std.proofs.Common.{◌≡◌, ℕ, ◌≤◌, List, [], ◌∷◌, length, sym, ap, subst}
-use Rattle.octets.specs.Strings.{Bytes}
+use Rattle.std.proofs.Common.{ℕ, ◌≤◌, List, [], ◌∷◌, length, sym, subst}
 use Rattle.sealing.proofs.Sealings.{only}
 use Rattle.sealing.specs.Meaning.{Meaning, Lawful}
-use Rattle.ends.proofs.Receivers.{Stands, Outcome, receipt, outcome, stands-fresh, stands-next, due, alike}
+use Rattle.ends.proofs.Receivers.{Stands, receipt, outcome, stands-fresh, stands-next, due, alike}
 use Rattle.ends.proofs.Senders.{counted, once-ups}
-use Rattle.ends.specs.Promise.{Same, Promise, Kept, Accepting, at_first, at_second, drawn, handed_by, joined, numbers, occurs}
+use Rattle.ends.specs.Promise.{Same, Promise, Accepting, at_first, at_second, drawn, handed_by, numbers, occurs}
 use Rattle.ends.specs.Runs.{Event, draws, seals, gives_up, first_receives, second_receives, Receipt, handed_out, Receives, World, Run}
 use Rattle.ends.specs.Window.{Marks}
 

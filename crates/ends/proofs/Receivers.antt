@@ -1,11 +1,11 @@
 -- What is kept of a receiver over a run.
-use Rattle.std.proofs.Common.{◌≡◌, ℕ, ◌+◌, ◌-◌, ◌/◌, ◌^◌, ◌<◌, ◌≤◌, Bool, true, false, cond, ◌||◌, eqb, ltb, leb, ◌⊎◌, List, [], ◌∷◌, ◌++◌, length, take, Some, None, Ok, Err, Option, Result, sym, refl, ap, ◌∙◌, subst, ap₂, inl, inr, ⊎_elim, arith}
+use Rattle.std.proofs.Common.{◌≡◌, ℕ, ◌+◌, ◌-◌, ◌/◌, ◌^◌, ◌<◌, ◌≤◌, Bool, true, false, cond, eqb, ltb, leb, ◌⊎◌, List, [], ◌∷◌, length, take, Some, None, Ok, Err, Option, Result, sym, refl, ap, ◌∙◌, subst, ap₂, inl, inr, ⊎_elim, arith}
 use native.Mathlib.Nat.{zero-div}
 use Rattle.octets.specs.Strings.{Bytes, same}
-use Rattle.std.proofs.lemmas.Bool.{both_ways, cases_Bool, cases_lt, eq-eqb, eqb-true, leb-false, le-ltb, lt-leb, ltb-false, or_cases, or_left, or_right}
+use Rattle.std.proofs.lemmas.Bool.{both_ways, cases_Bool, cases_lt, eq-eqb, eqb-true, leb-false, le-ltb, lt-leb, or_cases, or_left, or_right}
 use Rattle.sealing.proofs.Sealings.{exactly, only, opened-number, tagged-by}
 use Rattle.sealing.specs.Calls.{examining, opening, placed, plain, text_of}
-use Rattle.sealing.specs.Exactly.{LawfulSizes, OpensExactly}
+use Rattle.sealing.specs.Exactly.{LawfulSizes}
 use Rattle.sealing.specs.Meaning.{Meaning, Lawful}
 use Rattle.sealing.specs.Sealing.{IsSealing, tag}
 use Rattle.sealing.specs.declared.fault.SealingFault.{SealingFault}
@@ -13,7 +13,7 @@ use Rattle.sealing.specs.declared.plain_open.Opened.{Opened}
 use Rattle.ends.proofs.Marking.{accepted-marked}
 use Rattle.ends.proofs.Sameness.{to_same, from-same}
 use Rattle.ends.specs.Promise.{Same, joined, handed_by, numbers, In, Due, Accepting, Alike, none, both, left, right}
-use Rattle.ends.specs.Receiving.{opened, windowed, examined_by, receiving, Marking}
+use Rattle.ends.specs.Receiving.{opened, windowed, examined_by, receiving}
 use Rattle.ends.specs.Runs.{Receipt, handed_out, Receives}
 use Rattle.ends.specs.Window.{Marks, fresh, accepted, judging, Accepts}
 use Rattle.ends.specs.declared.fault.ReceiverFault.{ReceiverFault}

@@ -1,10 +1,10 @@
 -- Numbers kept of a window: when a window can stand so.
-use Rattle.std.proofs.Common.{◌≡◌, ℕ, zero, suc, ◌+◌, ◌-◌, ◌*◌, ◌/◌, ◌%◌, ◌^◌, ◌<◌, ◌≤◌, Bool, true, false, cond, eqb, ltb, sym, refl, ap, ◌∙◌, subst, inl, inr, arith}
+use Rattle.std.proofs.Common.{◌≡◌, ℕ, zero, suc, ◌+◌, ◌-◌, ◌*◌, ◌/◌, ◌%◌, ◌^◌, ◌<◌, ◌≤◌, true, false, eqb, refl, ap, ◌∙◌, subst, inl, inr, arith}
 use native.Mathlib.Nat.{zero-div}
-use Rattle.std.proofs.lemmas.Nat.{pow-add, pow_pos, shr-shr, shr_le}
+use Rattle.std.proofs.lemmas.Nat.{pow-add, shr-shr, shr_le}
 use Rattle.std.proofs.lemmas.Bool.{cases_lt, eq-eqb, ne_eqb, lt-ltb, le-ltb}
 use Rattle.ends.proofs.Marking.{bit, bit-small}
-use Rattle.ends.specs.Window.{Marks, possible}
+use Rattle.ends.specs.Window.{possible}
 
 -- marks that end below the highest have no bit from there on
 pub none_below : (top w : ℕ) → w < 2 ^ 64 → (top < 64 → w / 2 ^ top ≡ 0) → (n : ℕ) → top ≤ n → bit w n ≡ 0

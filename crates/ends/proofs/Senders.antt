@@ -1,15 +1,14 @@
 -- What is kept of a sender over a run.
-use Rattle.std.proofs.Common.{◌≡◌, ℕ, zero, suc, ◌+◌, ◌^◌, ◌<◌, ◌≤◌, Bool, true, false, cond, eqb, ltb, List, [], ◌∷◌, ◌++◌, length, take, drop, Some, None, Ok, Err, Option, Result, sym, refl, ap, ◌∙◌, subst, arith}
+use Rattle.std.proofs.Common.{◌≡◌, ℕ, zero, suc, ◌+◌, ◌^◌, ◌≤◌, Bool, true, false, cond, eqb, ltb, List, [], ◌∷◌, length, Some, None, Ok, Err, Option, Result, sym, refl, ap, ◌∙◌, subst, arith}
 use Rattle.std.proofs.lemmas.Bool.{cond_both, eqb-true, ltb-false}
 use Rattle.std.specs.Option.{option_to_list}
 use Rattle.sealing.proofs.Sealings.{fitting-seals}
-use Rattle.sealing.specs.Calls.{fitting, placed}
+use Rattle.sealing.specs.Calls.{fitting}
 use Rattle.sealing.specs.Meaning.{Meaning, Lawful}
-use Rattle.sealing.specs.Sealing.{IsSealing, record_of}
 use Rattle.sealing.specs.declared.fault.SealingFault.{SealingFault}
 use Rattle.ends.specs.Promise.{drawn, sealed, given_up, occurs, ups, Sealings}
-use Rattle.ends.specs.Runs.{Event, draws, seals, gives_up, first_receives, second_receives, Draws, GivesUp, Seals, World, Step, Run, start}
-use Rattle.ends.specs.Sending.{Counting, started, drawing_at, drawing, after_draw, is_out, wrong_ticket, handed_back, giving_up, sealing_with, after_spending}
+use Rattle.ends.specs.Runs.{Event, draws, seals, gives_up, first_receives, second_receives, Draws, GivesUp, Seals, World, Run}
+use Rattle.ends.specs.Sending.{Counting, drawing_at, is_out, wrong_ticket, handed_back}
 use Rattle.ends.specs.declared.fault.SenderFault.{SenderFault}
 use Rattle.ends.specs.declared.fault.SenderFault.TheVariants.{UsedUp}
 use Rattle.ends.specs.declared.ticket.Returned.{Returned}

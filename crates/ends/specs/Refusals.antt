@@ -1,5 +1,4 @@
 -- What each fault of an end tells.
-use Rattle.std.specs.Prelude.{ℕ}
 use Rattle.refusals.specs.Table.{alone, first_number, ticket_out, used_up, wrong_ticket, too_old, accepted_earlier}
 use Rattle.refusals.specs.declared.Refusal.{Refusal}
 use Rattle.sealing.specs.Refusals as sealing

@@ -1,5 +1,5 @@
 -- When an expander does not refuse.
-use Rattle.std.proofs.Common.{◌≡◌, ℕ, ◌≤◌, ◌⊎◌, Ok, Err, arith}
+use Rattle.std.proofs.Common.{◌≡◌, ℕ, ◌≤◌, ◌⊎◌, Err, arith}
 use Rattle.std.proofs.lemmas.Bool.Decides.{nat_tests}
 use Rattle.expanders.specs.declared.fault.ExpanderFault.{ExpanderFault}
 use Rattle.expanders.specs.Refusals.{adding}

@@ -1,5 +1,5 @@
 -- The byte strings of a line that was read fit areas of half the bytes that a line may have.
-use Rattle.std.proofs.Common.{◌≡◌, ℕ, ◌+◌, ◌*◌, ◌≤◌, List, [], ◌∷◌, ◌++◌, length, Ok, codes, Result, refl, ap, subst, arith, length-append}
+use Rattle.std.proofs.Common.{◌≡◌, ℕ, ◌*◌, ◌≤◌, List, [], ◌∷◌, ◌++◌, length, Ok, codes, Result, refl, ap, subst, arith, length-append}
 use Rattle.forms.specs.Columns.{Reads}
 use Rattle.forms.specs.Hex.{hexed, pairs}
 use Rattle.forms.specs.Said.{asked_of, said}

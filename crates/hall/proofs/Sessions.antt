@@ -4,7 +4,7 @@ use Rattle.octets.specs.Strings.{Bytes}
 use Rattle.ciphers.specs.declared.wide.WideCipher.{Ghosts as Cipher}
 use Rattle.hashes.specs.declared.keyed.KeyedHash.{Ghosts as Hash}
 use Rattle.sealing.specs.Meaning.{Meaning}
-use Rattle.ends.specs.Runs.{Event, draws, gives_up, World, Run, Step}
+use Rattle.ends.specs.Runs.{Event, draws, gives_up, Run, Step}
 use Rattle.ends.specs.Sending.{drawing, giving_up}
 use Rattle.ends.specs.Window.{Marks}
 use Rattle.ends.specs.declared.ticket.Ticket.{Ticket}

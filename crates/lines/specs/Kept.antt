@@ -1,5 +1,5 @@
 -- What is kept of a line.
-use Rattle.std.specs.Prelude.{◌≡◌, ℕ, ◌<◌, ◌≤◌, List, length, vec_items, ◌≢◌, slice_index}
+use Rattle.std.specs.Prelude.{ℕ, ◌<◌, ◌≤◌, List, length, vec_items, ◌≢◌, slice_index}
 use Rattle.lines.specs.declared.Lines.{Lines}
 
 abbrev pub line_of : {R : Type 0} → Lines R → List ℕ

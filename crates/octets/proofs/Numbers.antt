@@ -1,5 +1,5 @@
 -- Numbers and their bytes.
-use Rattle.std.proofs.Common.{◌≡◌, ℕ, zero, suc, ◌+◌, ◌*◌, ◌/◌, ◌%◌, ◌^◌, ◌<◌, List, [], ◌∷◌, reverse, length, get_or, sym, refl, ap, ◌∙◌, mod-lt, pow-suc, arith}
+use Rattle.std.proofs.Common.{◌≡◌, ℕ, zero, suc, ◌+◌, ◌*◌, ◌/◌, ◌%◌, ◌^◌, ◌<◌, List, [], ◌∷◌, reverse, length, get_or, sym, refl, ap, ◌∙◌, pow-suc, arith}
 use Rattle.std.proofs.lemmas.List.{drop_more, drop_all, reverse-reverse, length-reverse}
 use Rattle.octets.proofs.Bytes.{bytes-cons, bytes-tail, bytes-head, bytes-reverse}
 use Rattle.octets.specs.Strings.{Bytes, le, be, le_value, be_value}

@@ -1,5 +1,5 @@
 -- What holds of byte strings, for any strings and numbers.
-use Rattle.std.specs.Prelude.{◌≡◌, ℕ, ◌+◌, ◌-◌, ◌^◌, ◌<◌, ◌≤◌, true, List, ◌++◌, length}
+use Rattle.std.specs.Prelude.{◌≡◌, ℕ, ◌^◌, ◌<◌, true, List, ◌++◌, length}
 use Rattle.octets.specs.Strings.{Bytes, xor, xor_at, le, be, le_value, be_value, filled, same}
 
 pub record Laws : Type 0 where

@@ -1,5 +1,5 @@
 -- Every refusal by its number, with its place, its detail and what it carries.
-use Rattle.std.specs.Prelude.{ℕ, ◌^◌, Some, None, Option}
+use Rattle.std.specs.Prelude.{ℕ, ◌^◌, Some, None}
 use Rattle.refusals.specs.declared.Place.{Place}
 use Rattle.refusals.specs.declared.Place.TheVariants.{Part, Sender, Expander, Cipher, Sealing, Receiver}
 use Rattle.refusals.specs.declared.Reason.{Reason}

@@ -1,11 +1,10 @@
 -- What a record that was examined is like.
-use Rattle.std.proofs.Common.{◌≡◌, ℕ, ◌+◌, ◌-◌, ◌^◌, ◌≤◌, Bool, true, false, cond, ltb, List, length, Ok, Err, Option, Result, sym, refl, ◌∙◌, arith}
+use Rattle.std.proofs.Common.{◌≡◌, ℕ, ◌+◌, ◌-◌, ◌^◌, ◌≤◌, Bool, true, false, List, length, Ok, Err, Option, Result, refl, arith}
 use Rattle.std.proofs.lemmas.Bool.{ltb-false, le-ltb}
 use Rattle.ciphers.proofs.Verdicts.{within, admitted}
-use Rattle.ciphers.specs.Refusals.{verdict}
 use Rattle.ciphers.specs.declared.fault.CipherFault.{CipherFault}
 use Rattle.expanders.specs.declared.fault.PastReach.{PastReach}
-use Rattle.sealing.specs.Calls.{unless, admitting, numbered, then_numbered, number_of, examining}
+use Rattle.sealing.specs.Calls.{unless, admitting, then_numbered, number_of, examining}
 use Rattle.sealing.specs.declared.fault.SealingFault.{SealingFault}
 
 pub record Examined (lowest highest header : ℕ) (r : List ℕ) (work text n : ℕ) : Type 0 where

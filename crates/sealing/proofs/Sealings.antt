@@ -1,5 +1,5 @@
 -- Sealings, and the records that opening accepts.
-use Rattle.std.proofs.Common.{◌≡◌, ℕ, ◌+◌, ◌-◌, ◌^◌, ◌<◌, ◌≤◌, Bool, true, false, List, ◌++◌, length, take, drop, Ok, Err, Result, sym, refl, ap, ◌∙◌, subst, ap₂, add_comm, arith}
+use Rattle.std.proofs.Common.{◌≡◌, ℕ, ◌+◌, ◌-◌, ◌^◌, ◌≤◌, Bool, true, false, List, ◌++◌, length, take, drop, Ok, Err, Result, sym, refl, ap, ◌∙◌, subst, ap₂, add_comm, arith}
 use Rattle.octets.specs.Strings.{Bytes, be, be_value, same}
 use Rattle.octets.proofs.Bytes.{bytes-append, bytes_take, bytes_drop}
 use Rattle.octets.proofs.Numbers.{be_value_be, be_be_value, length-be, bytes-be}

@@ -5,7 +5,7 @@ use Rattle.expanders.specs.declared.fault.PastReach.{PastReach}
 use Rattle.ciphers.specs.Refusals.{verdict}
 use Rattle.ciphers.specs.declared.fault.CipherFault.{CipherFault}
 use Rattle.sealing.specs.Meaning.{Meaning}
-use Rattle.sealing.specs.Sealing.{tag, record_of}
+use Rattle.sealing.specs.Sealing.{tag}
 use Rattle.sealing.specs.declared.fault.SealingFault.{SealingFault}
 use Rattle.sealing.specs.declared.fault.SealingFault.TheVariants.{RecordShort, HeaderLong, Cipher, WorkShort, AreaShort, NumberOutside, NoSealing}
 use Rattle.sealing.specs.declared.plain_open.Opened.{Opened}

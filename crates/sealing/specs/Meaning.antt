@@ -1,5 +1,5 @@
 -- What a line means: its cipher, its header hash and its name.
-use Rattle.std.specs.Prelude.{◌≡◌, ℕ, ◌≤◌, List, ◌++◌, length, Option}
+use Rattle.std.specs.Prelude.{◌≡◌, ℕ, ◌≤◌, List, length, Option}
 use Rattle.octets.specs.Strings.{Bytes}
 use Rattle.expanders.specs.declared.fault.PastReach.{PastReach}
 use Rattle.ciphers.specs.Admitted.{Admitted}

@@ -1,5 +1,4 @@
 -- What each fault of sealing tells.
-use Rattle.std.specs.Prelude.{ℕ}
 use Rattle.refusals.specs.Table as table
 use Rattle.refusals.specs.declared.Refusal.{Refusal}
 use Rattle.ciphers.specs.Refusals as ciphers

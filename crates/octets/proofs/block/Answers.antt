@@ -1,4 +1,3 @@
-use Rattle.std.proofs.Common.{◌≡◌, ℕ, ◌-◌, min, ◌++◌, length, take, drop, sym, ap, ◌∙◌, arith}
 use Rattle.octets.proofs.Slices.{filled-front}
 use Rattle.octets.proofs.block.Goals as goal
 

@@ -1,4 +1,4 @@
-use Rattle.std.proofs.Common.{◌≡◌, ℕ, ◌<◌, false, eqb, List, length, get_or, sym, ap, ◌∙◌, arith, below_more}
+use Rattle.std.proofs.Common.{◌≡◌, ℕ, false, eqb, List, length, get_or, ap, arith, below_more}
 use lib.Bits.{xor_self}
 use Rattle.octets.proofs.Same.{same_by, or-none, xor-none}
 use Rattle.octets.proofs.equal.Goals as goal

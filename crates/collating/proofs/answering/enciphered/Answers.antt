@@ -1,6 +1,6 @@
 use Rattle.ciphers.proofs.Verdicts.{within}
 use Rattle.collating.proofs.Ciphering.{front, changed, taken-too, gave}
-use Rattle.std.proofs.Common.{List, length, sym, ap, ◌∙◌}
+use Rattle.std.proofs.Common.{List, sym, ap, ◌∙◌}
 use Rattle.collating.proofs.answering.enciphered.Goals as goal
 
 pub returns : goal.returns

@@ -1,4 +1,4 @@
-use Rattle.std.proofs.Common.{◌≡◌, ◌+◌, ◌*◌, drop, sym, ap, ◌∙◌, arith}
+use Rattle.std.proofs.Common.{◌+◌, ◌*◌, drop, sym, ap, ◌∙◌, arith}
 use Rattle.forms.specs.Decimals.{valued}
 use Rattle.collating.proofs.Numbering.{ten-more, small-enough, low_digit, high_digit, one-digit, one_more, no_number, whole-number}
 use Rattle.collating.proofs.fields.decimal.Goals as goal

@@ -1,4 +1,4 @@
-use Rattle.std.proofs.Common.{ℕ, ◌-◌, List, take, ap, ◌∙◌}
+use Rattle.std.proofs.Common.{ℕ, ◌-◌, List, take, ap}
 use Rattle.forms.specs.Said.{bytes_of}
 use Rattle.collating.specs.Answers.{answering}
 use Rattle.collating.specs.declared.question.Question.TheVariants.{Expand}

@@ -1,4 +1,4 @@
-use Rattle.std.proofs.Common.{◌≡◌, length, ap, ◌∙◌, arith}
+use Rattle.std.proofs.Common.{length, arith}
 use Rattle.forms.specs.Said.{bytes_of}
 use Rattle.collating.proofs.Filling.{filled-front, decoded-fits, decoded-short}
 use Rattle.std.proofs.lemmas.Bool.{le-leb}

@@ -1,4 +1,4 @@
-use Rattle.std.proofs.Common.{◌≡◌, ◌-◌, List, length, take, drop, sym, ap, ◌∙◌, ap₂}
+use Rattle.std.proofs.Common.{◌≡◌, ◌-◌, length, take, drop, ap, ◌∙◌, ap₂}
 use Rattle.octets.specs.Strings.{same}
 use Rattle.std.proofs.lemmas.List.{take_rest}
 use Rattle.sealing.proofs.plain_open.decipher.Goals as goal

@@ -1,4 +1,4 @@
-use Rattle.std.proofs.Common.{◌≡◌, ◌+◌, ◌-◌, ◌≤◌, length, ap, ◌∙◌, arith}
+use Rattle.std.proofs.Common.{◌≡◌, ◌-◌, length, ap, ◌∙◌, arith}
 use Rattle.sealing.proofs.Examined.{examined}
 use Rattle.sealing.proofs.Opening.{tagged_ok, copied-out}
 use Rattle.sealing.proofs.plain_open.open_in.Goals as goal

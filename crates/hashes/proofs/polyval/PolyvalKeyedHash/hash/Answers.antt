@@ -2,7 +2,7 @@ use Rattle.std.proofs.Common.{◌≡◌, ℕ, ◌*◌, ◌%◌, ◌^◌, List, [
 use Rattle.octets.specs.Strings.{xor, le}
 use Rattle.hashes.specs.ValuesLemmas.{padded-none, padded-part, polyval-end}
 use Rattle.hashes.specs.Absorbed.{Taken, Absorbed}
-use Rattle.hashes.specs.Polyval.{dot_block, padded, polyval}
+use Rattle.hashes.specs.Polyval.{dot_block, padded}
 use Rattle.hashes.proofs.polyval.PolyvalKeyedHash.hash.Goals as goal
 use Rattle.hashes.proofs.polyval.PolyvalKeyedHash.hash.Goals.{then-chain-gt0, else-chain-gt0}
 
