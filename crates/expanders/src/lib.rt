@@ -1,9 +1,9 @@
 // Expanders: from a domain, a tweak and 16 bytes to a long sequence.
 #![tactic(auto)]
 
-mod aes;
 mod blocks;
-mod chacha;
+mod by_aes;
+mod by_chacha;
 mod expander;
 mod fault;
 mod keys;

@@ -2,7 +2,7 @@ use Rattle.std.proofs.Common.{ℕ, List, length, drop, ◌∙◌, ap₂, lit≤}
 use Rattle.chacha.specs.ChaCha20.{block}
 use Rattle.octets.specs.Strings.{xor}
 use Rattle.expanders.proofs.Places.{place, starts}
-use Rattle.expanders.proofs.chacha.ChaChaExpanderExpander.add.Goals as goal
+use Rattle.expanders.proofs.by_chacha.ChaChaExpanderExpander.add.Goals as goal
 use Rattle.expanders.specs.Sequences.{blocks, chacha_sequence}
 
 pub add_blocks-requires : goal.add_blocks-requires

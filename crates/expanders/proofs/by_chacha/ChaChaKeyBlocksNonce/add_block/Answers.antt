@@ -2,7 +2,7 @@ use Rattle.std.proofs.Common.{ap, ◌∙◌}
 use Rattle.chacha.proofs.Derived.{length-block}
 use Rattle.octets.specs.Strings.{xor_at}
 use Rattle.expanders.specs.Pieces.{rest-of-block}
-use Rattle.expanders.proofs.chacha.ChaChaKeyBlocksNonce.add_block.Goals as goal
+use Rattle.expanders.proofs.by_chacha.ChaChaKeyBlocksNonce.add_block.Goals as goal
 
 pub returns : goal.returns
 returns c =

@@ -3,7 +3,7 @@ use Rattle.aes.specs.Key.{key_of}
 use Rattle.octets.specs.Strings.{xor_at}
 use Rattle.expanders.specs.Counters.{counted, length-counted}
 use Rattle.expanders.specs.Pieces.{rest-of-block}
-use Rattle.expanders.proofs.aes.AesKeyBlocksBase.add_block.Goals as goal
+use Rattle.expanders.proofs.by_aes.AesKeyBlocksBase.add_block.Goals as goal
 
 pub returns : goal.returns
 returns c =

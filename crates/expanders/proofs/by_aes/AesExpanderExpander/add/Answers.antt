@@ -2,7 +2,7 @@ use Rattle.std.proofs.Common.{ℕ, List, length, drop, ap, ◌∙◌, ap₂, lit
 use Rattle.aes.specs.Key.{key_of}
 use Rattle.octets.specs.Strings.{xor}
 use Rattle.expanders.proofs.Places.{place, starts}
-use Rattle.expanders.proofs.aes.AesExpanderExpander.add.Goals as goal
+use Rattle.expanders.proofs.by_aes.AesExpanderExpander.add.Goals as goal
 use Rattle.expanders.specs.Sequences.{blocks, counter_block, aes_sequence}
 
 pub add_blocks-requires : goal.add_blocks-requires
