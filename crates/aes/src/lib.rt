@@ -4,23 +4,29 @@
 ghost use Rattle.std.specs.Prelude.{◌≡◌};
 ghost use Rattle.aes.specs.Cipher.{aes as aes_of};
 ghost use Rattle.aes.specs.Examples.{key128, key256, plaintext};
-ghost use Rattle.aes.specs.Key.{key_of, Keyed};
+ghost use Rattle.aes.specs.Key.{key_of, admitted};
 ghost use Rattle.aes.specs.Laws.{Laws};
+ghost use Rattle.std.proofs.Common.{rules};
 
 mod key;
 mod schedule;
 mod state;
 
 pub use key::AesKey;
+use keys::FromKey;
 use refusals::KeyLength;
 use schedule::key_expansion;
 use state::{last_round, load, round, store};
 
-impl AesKey {
-    // The expanded key of a key of 16 or 32 bytes. Any other length is refused.
-    pub fn new(key: &[u8]) -> Result<AesKey, KeyLength>
-        ensures { Keyed key.now result }
-    {
+// An expanded key, of a key of 16 or 32 bytes.
+impl FromKey for AesKey {
+    ghost takes = { λ n. admitted n };
+
+    ghost key = { λ k. key_of k };
+
+    ghost most = { Prim.search rules };
+
+    fn new(key: &[u8]) -> Result<AesKey, KeyLength> {
         let nk = match key.len() {
             16 => 4,
             32 => 8,
@@ -31,7 +37,9 @@ impl AesKey {
             words: key_expansion(key, nk),
         })
     }
+}
 
+impl AesKey {
     // The block enciphered under the key.
     pub fn encipher(&self, block: &[u8; 16]) -> [u8; 16]
         ensures { result ≡ aes_of (key_of self.now) block.now }

@@ -2,7 +2,6 @@ pub mod Absorbed
 pub mod Chain
 pub mod Cmac
 pub mod Halves
-pub mod Key
 pub mod Keys
 pub mod Known
 pub mod Laws

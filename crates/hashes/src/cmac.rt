@@ -1,11 +1,11 @@
 // AES-CMAC of RFC 4493, with a key of 16 bytes.
-ghost use Rattle.std.specs.Prelude.{◌≡◌};
+ghost use Rattle.std.specs.Prelude.{◌≡◌, ◌==◌};
 ghost use Rattle.aes.specs.Cipher.{aes as aes_of};
 ghost use Rattle.aes.specs.Key.{key_of};
 ghost use Rattle.hashes.specs.Cmac.{subkey as subkey_of, cmac as cmac_of};
-ghost use Rattle.hashes.specs.Key.{Keyed};
 ghost use Rattle.hashes.specs.Keys.{cmac_key};
 ghost use Rattle.hashes.specs.Macs.{length-cmac, bytes-cmac};
+ghost use Rattle.std.proofs.Common.{rules};
 
 use crate::chain::BlockFunction;
 use crate::field::masked;
@@ -14,6 +14,7 @@ use crate::keyed::KeyedHash;
 use crate::state::Chain;
 use crate::subkeys::Subkeys;
 use aes::AesKey;
+use keys::FromKey;
 use octets::{add_at, add_into};
 use refusals::KeyLength;
 
@@ -32,11 +33,15 @@ fn subkey(block: &[u8; 16]) -> [u8; 16]
     ((v << 1) ^ masked(v >> 127, RB)).to_be_bytes()
 }
 
-impl Cmac {
-    // The hash under a key of 16 bytes. Any other length is refused.
-    pub fn new(key: &[u8]) -> Result<Cmac, KeyLength>
-        ensures { Keyed cmac_key key.now result }
-    {
+// The hash under a key of 16 bytes.
+impl FromKey for Cmac {
+    ghost takes = { λ n. (n == 16) };
+
+    ghost key = { λ h. cmac_key h };
+
+    ghost most = { Prim.search rules };
+
+    fn new(key: &[u8]) -> Result<Cmac, KeyLength> {
         let key = Key::new(key)?;
         let cipher = AesKey::new(&key.bytes)?;
         let k1 = subkey(&cipher.encipher(&[0; 16]));

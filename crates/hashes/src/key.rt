@@ -1,8 +1,9 @@
 // A key of 16 bytes.
-ghost use Rattle.std.specs.Prelude.{◌≡◌, length};
+ghost use Rattle.std.specs.Prelude.{◌≡◌, length, ◌==◌};
 ghost use Rattle.octets.specs.Strings.{Bytes};
-ghost use Rattle.hashes.specs.Key.{Keyed};
+ghost use Rattle.std.proofs.Common.{rules};
 
+use keys::FromKey;
 use octets::block;
 use refusals::KeyLength;
 
@@ -15,11 +16,16 @@ pub(crate) struct Key {
 
 impl Key {
     const LENGTH: usize = 16;
+}
 
-    // The key of 16 bytes. Any other length is refused.
-    pub(crate) fn new(key: &[u8]) -> Result<Key, KeyLength>
-        ensures { Keyed (λ k. k.bytes) key.now result }
-    {
+impl FromKey for Key {
+    ghost takes = { λ n. (n == 16) };
+
+    ghost key = { λ k. k.bytes };
+
+    ghost most = { Prim.search rules };
+
+    fn new(key: &[u8]) -> Result<Key, KeyLength> {
         if key.len() != Self::LENGTH {
             return Err(KeyLength(key.len()));
         }

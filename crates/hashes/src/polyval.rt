@@ -1,14 +1,16 @@
 // POLYVAL of RFC 8452 as a keyed hash, with the product bit by bit.
-ghost use Rattle.hashes.specs.Key.{Keyed};
+ghost use Rattle.std.specs.Prelude.{◌==◌};
 ghost use Rattle.hashes.specs.Keys.{polyval_key};
 ghost use Rattle.hashes.specs.Polyval.{dot_block, polyval as polyval_of};
 ghost use Rattle.hashes.specs.ValuesLemmas.{length-polyval, bytes-polyval};
+ghost use Rattle.std.proofs.Common.{rules};
 
 use crate::chain::BlockFunction;
 use crate::field::dot;
 use crate::key::Key;
 use crate::keyed::KeyedHash;
 use crate::state::Chain;
+use keys::FromKey;
 use octets::{add_into, le_bytes};
 use refusals::KeyLength;
 
@@ -17,11 +19,15 @@ pub struct Polyval {
     key: Key,
 }
 
-impl Polyval {
-    // The hash under a key of 16 bytes. Any other length is refused.
-    pub fn new(key: &[u8]) -> Result<Polyval, KeyLength>
-        ensures { Keyed polyval_key key.now result }
-    {
+// The hash under a key of 16 bytes.
+impl FromKey for Polyval {
+    ghost takes = { λ n. (n == 16) };
+
+    ghost key = { λ h. polyval_key h };
+
+    ghost most = { Prim.search rules };
+
+    fn new(key: &[u8]) -> Result<Polyval, KeyLength> {
         Ok(Polyval {
             key: Key::new(key)?,
         })

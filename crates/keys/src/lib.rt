@@ -1,0 +1,23 @@
+// Parts that are made from a key.
+#![tactic(auto)]
+
+ghost use Rattle.std.specs.Prelude.{◌≡◌, ℕ, ◌≤◌, Bool, true, List};
+ghost use Rattle.keys.specs.Taken.{held, taken};
+
+use refusals::KeyLength;
+
+// A part under a key, which has one of the lengths that the part takes.
+pub trait FromKey {
+    // Whether a key of this length is taken.
+    ghost takes: { ℕ → Bool };
+
+    // The key that a part holds.
+    ghost key: { Self → List ℕ };
+
+    // The part under a key. A key of another length is refused.
+    fn new(bytes: &[u8]) -> Result<Self, KeyLength>
+        ensures { held key result ≡ taken takes bytes.now };
+
+    // No part takes more than 32 bytes.
+    ghost most: { (n : ℕ) → takes n ≡ true → n ≤ 32 };
+}
