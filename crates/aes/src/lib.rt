@@ -13,7 +13,7 @@ mod schedule;
 mod state;
 
 pub use key::AesKey;
-use keys::FromKey;
+use from_key::FromKey;
 use refusals::KeyLength;
 use schedule::key_expansion;
 use state::{last_round, load, round, store};

@@ -1,5 +1,4 @@
 pub mod Asked
-pub mod Keys
 pub mod Refusals
 pub mod Sequences
 pub mod Counters

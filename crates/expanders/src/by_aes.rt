@@ -1,7 +1,6 @@
 // The expander by AES: a counter added to a masked input.
 ghost use Rattle.std.specs.Prelude.{◌≡◌};
-ghost use Rattle.aes.specs.Key.{key_of};
-ghost use Rattle.expanders.specs.Keys.{AesKeyed};
+ghost use Rattle.aes.specs.Key.{key_of, admitted};
 ghost use Rattle.expanders.specs.Sequences.{mask as mask_of, counter_block, aes_sequence};
 ghost use Rattle.expanders.specs.Counters.{length-counted, bytes_counted};
 ghost use Rattle.expanders.specs.Pieces.{length-blocks, bytes-blocks};
@@ -12,6 +11,7 @@ use crate::expander::Expander;
 use crate::fault::ExpanderFault;
 use crate::keys::AesExpander;
 use aes::AesKey;
+use from_key::FromKey;
 use octets::{add_at, add_into};
 use refusals::KeyLength;
 
@@ -38,15 +38,21 @@ impl Blocks<Base> for AesKey {
     }
 }
 
-impl AesExpander {
-    // The expander under a key of 16 or 32 bytes. Any other length is refused.
-    pub fn new(key: &[u8]) -> Result<AesExpander, KeyLength>
-        ensures { AesKeyed key.now result }
-    {
+// The expander under a key of 16 or 32 bytes.
+impl FromKey for AesExpander {
+    ghost takes = { λ n. admitted n };
+
+    ghost key = { λ e. key_of e.key };
+
+    ghost most = { Prim.search rules };
+
+    fn new(key: &[u8]) -> Result<AesExpander, KeyLength> {
         let key = AesKey::new(key)?;
         Ok(AesExpander { key })
     }
+}
 
+impl AesExpander {
     // AES of the domain, the tweak and seven zero bytes.
     fn mask(&self, domain: u8, tweak: &[u8; 8]) -> [u8; 16]
         ensures { result ≡ mask_of (key_of self.now.key) domain tweak.now }

@@ -1,7 +1,6 @@
 // The expander by ChaCha20: a subkey by HChaCha20, and blocks under it.
-ghost use Rattle.std.specs.Prelude.{◌≡◌};
+ghost use Rattle.std.specs.Prelude.{◌≡◌, ◌==◌};
 ghost use Rattle.chacha.specs.ChaCha20.{block as block_of};
-ghost use Rattle.expanders.specs.Keys.{ChaChaKeyed};
 ghost use Rattle.expanders.specs.Sequences.{nonce as nonce_of, chacha_sequence};
 ghost use Rattle.chacha.proofs.Derived.{length-block, bytes-block};
 ghost use Rattle.expanders.specs.Pieces.{length-blocks, bytes-blocks};
@@ -12,6 +11,7 @@ use crate::expander::Expander;
 use crate::fault::ExpanderFault;
 use crate::keys::ChaChaExpander;
 use chacha::{block, subkey};
+use from_key::FromKey;
 use octets::add_at;
 use refusals::KeyLength;
 
@@ -52,11 +52,15 @@ impl Blocks<Nonce> for ChaChaKey {
     }
 }
 
-impl ChaChaExpander {
-    // The expander under a key of 32 bytes. Any other length is refused.
-    pub fn new(key: &[u8]) -> Result<ChaChaExpander, KeyLength>
-        ensures { ChaChaKeyed key.now result }
-    {
+// The expander under a key of 32 bytes.
+impl FromKey for ChaChaExpander {
+    ghost takes = { λ n. (n == 32) };
+
+    ghost key = { λ e. e.key };
+
+    ghost most = { Prim.search rules };
+
+    fn new(key: &[u8]) -> Result<ChaChaExpander, KeyLength> {
         if key.len() != 32 {
             return Err(KeyLength(key.len()));
         }

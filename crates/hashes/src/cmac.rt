@@ -14,7 +14,7 @@ use crate::keyed::KeyedHash;
 use crate::state::Chain;
 use crate::subkeys::Subkeys;
 use aes::AesKey;
-use keys::FromKey;
+use from_key::FromKey;
 use octets::{add_at, add_into};
 use refusals::KeyLength;
 

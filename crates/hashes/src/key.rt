@@ -3,7 +3,7 @@ ghost use Rattle.std.specs.Prelude.{◌≡◌, length, ◌==◌};
 ghost use Rattle.octets.specs.Strings.{Bytes};
 ghost use Rattle.std.proofs.Common.{rules};
 
-use keys::FromKey;
+use from_key::FromKey;
 use octets::block;
 use refusals::KeyLength;
 

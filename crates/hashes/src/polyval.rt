@@ -10,7 +10,7 @@ use crate::field::dot;
 use crate::key::Key;
 use crate::keyed::KeyedHash;
 use crate::state::Chain;
-use keys::FromKey;
+use from_key::FromKey;
 use octets::{add_into, le_bytes};
 use refusals::KeyLength;
 

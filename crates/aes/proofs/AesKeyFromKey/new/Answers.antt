@@ -1,5 +1,5 @@
 use Rattle.std.proofs.Common.{◌≡◌, ◌*◌, ◌%◌, ◌≤◌, length, ap, ◌∙◌, rules}
-use Rattle.keys.proofs.Making.{made}
+use Rattle.from_key.proofs.Making.{made}
 use Rattle.aes.specs.Key.{key_of, admitted}
 use Rattle.aes.proofs.Expansion.{key_back, scheduled}
 use Rattle.aes.proofs.Values.{words-admitted}

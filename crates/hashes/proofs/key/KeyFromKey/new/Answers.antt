@@ -1,5 +1,5 @@
 use Rattle.std.proofs.Common.{◌∙◌, ◌==◌, rules}
-use Rattle.keys.proofs.Making.{made}
+use Rattle.from_key.proofs.Making.{made}
 use Rattle.hashes.specs.Strings.{filled-whole}
 use Rattle.hashes.proofs.key.KeyFromKey.new.Goals as goal
 

@@ -2,7 +2,7 @@
 #![tactic(auto)]
 
 ghost use Rattle.std.specs.Prelude.{◌≡◌, ℕ, ◌≤◌, Bool, true, List};
-ghost use Rattle.keys.specs.Taken.{held, taken};
+ghost use Rattle.from_key.specs.Taken.{held, taken};
 
 use refusals::KeyLength;
 
