@@ -1,11 +1,9 @@
 // Why a wide cipher refuses.
 ghost use Rattle.std.specs.Prelude.{◌≡◌};
-ghost use Rattle.ciphers.specs.Refusals.{carrying, carried_reason, told};
-ghost use Rattle.refusals.specs.Table.{because};
-ghost use Rattle.refusals.specs.declared.Place.TheVariants.{Cipher};
+ghost use Rattle.ciphers.specs.Refusals.{carrying, told};
 
-use expanders::PastReach;
-use refusals::{Place, Reason, Refusal};
+use expanders::{ExpanderFault, PastReach};
+use refusals::{Place, Refusal};
 
 #[derive(Clone, Copy, PartialEq, Eq, Debug)]
 pub enum CipherFault {
@@ -35,37 +33,11 @@ impl From<CipherFault> for Refusal {
 
     fn from(fault: CipherFault) -> Refusal {
         match fault {
-            CipherFault::Short(lowest) => Refusal {
-                reason: reason(5, lowest),
-                carried: None,
-            },
+            CipherFault::Short(lowest) => Refusal::alone(5, Place::Cipher, lowest as u64),
             CipherFault::Long { highest, carried } => Refusal {
-                reason: reason(6, highest),
-                carried: carried_reason(carried),
+                carried: carried.map(|past| Refusal::from(ExpanderFault::from(past)).reason),
+                ..Refusal::alone(6, Place::Cipher, highest as u64)
             },
         }
-    }
-}
-
-fn reason(number: u8, length: usize) -> Reason
-    ensures { result ≡ because number Cipher length }
-{
-    Reason {
-        number,
-        place: Place::Cipher,
-        detail: length as u64,
-    }
-}
-
-fn carried_reason(fault: Option<PastReach>) -> Option<Reason>
-    ensures { result ≡ carried_reason fault }
-{
-    match fault {
-        None => None,
-        Some(PastReach(reach)) => Some(Reason {
-            number: 4,
-            place: Place::Expander,
-            detail: u64::from(reach),
-        }),
     }
 }

@@ -8,5 +8,5 @@ mod wide;
 
 pub use ddd::Ddd;
 pub use fault::CipherFault;
-pub use piles::{PileA, PileB, pile_a, pile_b};
+pub use piles::{PileA, PileB};
 pub use wide::WideCipher;

@@ -1,11 +1,11 @@
-// The two ciphers that are shipped.
-ghost use Rattle.expanders.specs.Keys.{AesKeyed, ChaChaKeyed};
-ghost use Rattle.hashes.specs.Key.{Keyed};
-ghost use Rattle.hashes.specs.Keys.{polyval_key, cmac_key};
-ghost use Rattle.ciphers.specs.Piles.{Piled};
+// The two ciphers that are shipped, and how a cipher is made from the keys of its parts.
+ghost use Rattle.std.specs.Prelude.{◌≡◌};
+ghost use Rattle.from_key.specs.Taken.{taken};
+ghost use Rattle.ciphers.specs.Piles.{both, held_by};
 
 use crate::ddd::Ddd;
 use expanders::{AesExpander, ChaChaExpander};
+use from_key::FromKey;
 use hashes::{Cmac, Polyval};
 use refusals::KeyLength;
 
@@ -15,20 +15,13 @@ pub type PileA = Ddd<Polyval, AesExpander>;
 // CMAC with the ChaCha expander.
 pub type PileB = Ddd<Cmac, ChaChaExpander>;
 
-// The cipher of pile a, under a hash key of 16 bytes and an expander key of 16 or 32, judged in this order.
-pub fn pile_a(hash_key: &[u8], expander_key: &[u8]) -> Result<PileA, KeyLength>
-    ensures { Piled (Keyed polyval_key hash_key.now) (AesKeyed expander_key.now) result }
-{
-    let hash = Polyval::new(hash_key)?;
-    let expander = AesExpander::new(expander_key)?;
-    Ok(Ddd { hash, expander })
-}
-
-// The cipher of pile b, under a hash key of 16 bytes and an expander key of 32, judged in this order.
-pub fn pile_b(hash_key: &[u8], expander_key: &[u8]) -> Result<PileB, KeyLength>
-    ensures { Piled (Keyed cmac_key hash_key.now) (ChaChaKeyed expander_key.now) result }
-{
-    let hash = Cmac::new(hash_key)?;
-    let expander = ChaChaExpander::new(expander_key)?;
-    Ok(Ddd { hash, expander })
+impl<H: FromKey + Drop, E: FromKey + Drop> Ddd<H, E> {
+    // The cipher under a key of the hash and a key of the expander, judged in this order.
+    pub fn from_keys(hash_key: &[u8], expander_key: &[u8]) -> Result<Ddd<H, E>, KeyLength>
+        ensures { held_by H.FromKey.key E.FromKey.key result ≡ both (taken H.FromKey.takes hash_key.now) (taken E.FromKey.takes expander_key.now) }
+    {
+        let hash = H::new(hash_key)?;
+        let expander = E::new(expander_key)?;
+        Ok(Ddd { hash, expander })
+    }
 }
