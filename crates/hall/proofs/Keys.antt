@@ -5,7 +5,8 @@ use Rattle.refusals.specs.declared.KeyLength.{KeyLength}
 use Rattle.forms.specs.Decoding.{decoded, placed}
 use Rattle.forms.specs.declared.hex.TooShort.{TooShort}
 use Rattle.hall.proofs.Areas.{filled-long, filled-front, decoded-fits}
-use Rattle.hall.specs.Keys.{wrong, up_to}
+use Rattle.from_key.specs.Taken.{wrong}
+use Rattle.hall.specs.Keys.{up_to}
 
 module _ (b area after : List ℕ) (n : ℕ) (r : Result ℕ TooShort) (ok : r ≡ Ok n) (answer : r ≡ decoded b (length area)) (is : after ≡ placed b area) where
   fits : length b ≤ length area

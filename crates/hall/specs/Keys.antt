@@ -2,6 +2,7 @@
 use Rattle.std.specs.Prelude.{ℕ, Bool, cond, List, length, Ok, Err, Result, ◌==◌, nat_le}
 use Rattle.refusals.specs.declared.KeyLength.{KeyLength}
 use Rattle.aes.specs.Key.{key_of, admitted}
+use Rattle.from_key.specs.Taken.{wrong, sized, taken}
 use Rattle.hashes.specs.Keys.{polyval_key, cmac_key}
 use Rattle.hashes.specs.declared.cmac.Cmac.{Cmac}
 use Rattle.hashes.specs.declared.polyval.Polyval.{Polyval}
@@ -31,16 +32,9 @@ keys_a c j = record { hash = polyval_key c.hash; expander = key_of c.expander.ke
 abbrev pub keys_b : CipherB → Cmac → Keys
 keys_b c j = record { hash = cmac_key c.hash; expander = c.expander.key; header = cmac_key j }
 
-abbrev pub wrong : List ℕ → KeyLength
-wrong key = record { 0 = length key }
-
 -- the length of a key of at most n bytes
 abbrev pub up_to : ℕ → List ℕ → Result ℕ KeyLength
 up_to n key = cond (nat_le (length key) n) (Ok (length key)) (Err (wrong key))
-
--- a key whose length its part takes, and else that length
-abbrev pub sized : Bool → List ℕ → Result (List ℕ) KeyLength
-sized takes key = cond takes (Ok key) (Err (wrong key))
 
 abbrev pub hash_key_taken : List ℕ → Result (List ℕ) KeyLength
 hash_key_taken key = sized (length key == 16) key
@@ -54,15 +48,6 @@ chacha_key_taken key = sized (length key == 32) key
 abbrev pub expander_key_taken : Pile → List ℕ → Result (List ℕ) KeyLength
 expander_key_taken A key = aes_key_taken key
 expander_key_taken B key = chacha_key_taken key
-
--- a key of a length among those taken
-abbrev pub taken : (ℕ → Bool) → List ℕ → Result (List ℕ) KeyLength
-taken takes key = sized (takes (length key)) key
-
--- the key that a part holds, as `of` reads it
-abbrev pub keyed : {K : Type 0} → (K → List ℕ) → Result K KeyLength → Result (List ℕ) KeyLength
-keyed of (Ok k) = Ok (of k)
-keyed of (Err e) = Err e
 
 abbrev pub then_key : {T : Type 0} → Result (List ℕ) KeyLength → (List ℕ → Result T KeyLength) → Result T KeyLength
 then_key (Ok k) next = next k

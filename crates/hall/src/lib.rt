@@ -1,7 +1,6 @@
 // From one line to its answer: the ends there are and the ticket held.
 #![tactic(auto)]
 
-mod from_key;
 mod hall;
 mod opened;
 mod opening;

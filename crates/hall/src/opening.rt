@@ -6,7 +6,6 @@ ghost use Rattle.hall.specs.Keys.{keys_by, keys_in};
 ghost use Rattle.hall.specs.Opening.{opened, numbered, standing, stood, seen, seen_as, Opens};
 ghost use Rattle.hall.specs.Sessions.{Begun, Begins};
 
-use crate::from_key::FromKey;
 use crate::hall::Hall;
 use crate::opened::Opened;
 use crate::parts::parts;
@@ -14,6 +13,7 @@ use crate::reply::Reply;
 use ciphers::Ddd;
 use ends::{Receiver, Sender, SenderFault};
 use forms::{Opening, Pile, Unread, read_opening};
+use from_key::FromKey;
 use refusals::Refusal;
 use sealing::LineName;
 

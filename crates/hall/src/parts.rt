@@ -1,11 +1,12 @@
 // The parts of the ends, from the keys of the first line.
 ghost use Rattle.std.specs.Prelude.{◌≡◌, ℕ, take, Ok};
 ghost use Rattle.forms.specs.Said.{bytes_of, ends_of};
-ghost use Rattle.hall.specs.Keys.{up_to, keyed, taken, keys_by, held_by};
+ghost use Rattle.from_key.specs.Taken.{held, taken};
+ghost use Rattle.hall.specs.Keys.{up_to, keys_by, held_by};
 
-use crate::from_key::FromKey;
 use ciphers::Ddd;
 use forms::{Hex, Opening, TooShort};
+use from_key::FromKey;
 use refusals::KeyLength;
 
 // Writes a key at the front of an area, and answers its length. No part takes a longer key.
@@ -20,11 +21,11 @@ fn read_key(hex: &Hex<'_>, area: &mut [u8; 32]) -> Result<usize, KeyLength>
 }
 
 fn part<P: FromKey>(hex: &Hex<'_>) -> Result<P, KeyLength>
-    ensures { keyed P.FromKey.key result ≡ taken P.FromKey.takes (bytes_of hex.now) }
+    ensures { held P.FromKey.key result ≡ taken P.FromKey.takes (bytes_of hex.now) }
 {
     let mut area = [0; 32];
     let length = read_key(hex, &mut area)?;
-    P::from_key(&area[0..length])
+    P::new(&area[0..length])
 }
 
 // The parts of an end: the keys are judged in the order hash, expander, header hash.
