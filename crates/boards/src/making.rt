@@ -1,12 +1,12 @@
 // A line is made from what a call brings.
 ghost use Rattle.std.specs.Prelude.{◌≡◌, Ok as Fine};
-ghost use Rattle.boards.specs.Lines.{line_a, line_b, line_brought, meant_a, meant_b, meant_by, meant, named};
+ghost use Rattle.boards.specs.Lines.{keys_by, keys_in, line_brought, meant_by, meant, named};
 
 use crate::brought::Brought;
 use crate::fault::Fault;
 use crate::line::{AnyLine, Line};
-use ciphers::{PileA, PileB, pile_a, pile_b};
-use hashes::{Cmac, Polyval};
+use ciphers::Ddd;
+use from_key::FromKey;
 use sealing::LineName;
 
 // The name of a line, of 8 bytes.
@@ -22,20 +22,12 @@ fn line_name(name: &[u8]) -> Result<LineName, Fault>
 }
 
 impl Brought<'_> {
-    fn line_a(&self) -> Result<Line<PileA, Polyval>, Fault>
-        ensures { meant meant_a result ≡ line_a self.now.hash_key.now self.now.expander_key.now self.now.header_key.now self.now.name.now }
+    // The line whose hashes are H and whose expander is E: the keys are judged in the order hash, expander, header hash, and then the name.
+    fn line_of<H: FromKey + Drop, E: FromKey + Drop>(&self) -> Result<Line<Ddd<H, E>, H>, Fault>
+        ensures { meant (keys_in H.FromKey.key E.FromKey.key) result ≡ keys_by H.FromKey.takes E.FromKey.takes self.now.hash_key.now self.now.expander_key.now self.now.header_key.now self.now.name.now }
     {
-        let cipher = pile_a(self.hash_key, self.expander_key)?;
-        let hash = Polyval::new(self.header_key)?;
-        let name = line_name(self.name)?;
-        Ok(Line { cipher, hash, name })
-    }
-
-    fn line_b(&self) -> Result<Line<PileB, Cmac>, Fault>
-        ensures { meant meant_b result ≡ line_b self.now.hash_key.now self.now.expander_key.now self.now.header_key.now self.now.name.now }
-    {
-        let cipher = pile_b(self.hash_key, self.expander_key)?;
-        let hash = Cmac::new(self.header_key)?;
+        let cipher = Ddd::from_keys(self.hash_key, self.expander_key)?;
+        let hash = H::new(self.header_key)?;
         let name = line_name(self.name)?;
         Ok(Line { cipher, hash, name })
     }
@@ -45,8 +37,8 @@ impl Brought<'_> {
         ensures { meant meant_by result ≡ line_brought self.now }
     {
         match self.pile {
-            b'a' => Ok(AnyLine::A(self.line_a()?)),
-            b'b' => Ok(AnyLine::B(self.line_b()?)),
+            b'a' => Ok(AnyLine::A(self.line_of()?)),
+            b'b' => Ok(AnyLine::B(self.line_of()?)),
             _ => Err(Fault::Pile(self.pile)),
         }
     }

@@ -20,7 +20,7 @@ use hashes::KeyedHash;
 fn outstanding(number: u64) -> Option<u64>
     ensures { result ≡ outstanding_of number }
 {
-    if number == 0 { None } else { Some(number) }
+    Some(number).filter(|n| *n != 0)
 }
 
 impl SenderState {
@@ -40,10 +40,7 @@ impl SenderState {
     {
         let (next, outstanding) = counter.kept();
         self.next = next;
-        self.outstanding = match outstanding {
-            Some(number) => number,
-            None => 0,
-        };
+        self.outstanding = outstanding.unwrap_or(0);
     }
 
     fn make(&mut self, first: u64) -> Result<Done, Fault>
