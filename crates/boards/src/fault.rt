@@ -1,15 +1,11 @@
 // Why a call of a board refuses.
 ghost use Rattle.std.specs.Prelude.{◌≡◌};
-ghost use Rattle.boards.specs.Told.{because as telling, coded as coded_as, carried_code, place_code, told, answered};
+ghost use Rattle.boards.specs.Told.{because as telling, coded, carried_code, place_code, told, answered};
 ghost use Rattle.boards.specs.declared.fault.Fault.TheVariants.{Refused};
-ghost use Rattle.refusals.specs.Table.{alone, key_length};
-ghost use Rattle.ends.specs.Refusals.{told as told_sender, told_receiver};
-ghost use Rattle.sealing.specs.Refusals.{told as told_sealing};
+ghost use Rattle.refusals.specs.declared.Refusal.{Refusal};
 
 use crate::answer::{Answer, Done, Reason};
-use ends::{ReceiverFault, SenderFault};
-use refusals::{KeyLength, Place, Refusal};
-use sealing::SealingFault;
+use refusals::{Place, Refusal};
 
 #[derive(Clone, Copy)]
 pub enum Fault {
@@ -23,34 +19,14 @@ pub enum Fault {
     Refused(Refusal),
 }
 
-impl From<KeyLength> for Fault {
-    ghost from_gives = { λ x y. y ≡ Refused (alone (key_length x.0)) };
+// What a layer below refuses by.
+impl<F> From<F> for Fault
+where
+    Refusal: From<F>,
+{
+    ghost from_gives = { λ x y. (r : Refusal) × (⟦<Refusal as From<F>>⟧.from_gives x r) × (y ≡ Refused r) };
 
-    fn from(fault: KeyLength) -> Fault {
-        Fault::Refused(fault.into())
-    }
-}
-
-impl From<SealingFault> for Fault {
-    ghost from_gives = { λ x y. y ≡ Refused (told_sealing x) };
-
-    fn from(fault: SealingFault) -> Fault {
-        Fault::Refused(fault.into())
-    }
-}
-
-impl From<SenderFault> for Fault {
-    ghost from_gives = { λ x y. y ≡ Refused (told_sender x) };
-
-    fn from(fault: SenderFault) -> Fault {
-        Fault::Refused(fault.into())
-    }
-}
-
-impl From<ReceiverFault> for Fault {
-    ghost from_gives = { λ x y. y ≡ Refused (told_receiver x) };
-
-    fn from(fault: ReceiverFault) -> Fault {
+    fn from(fault: F) -> Fault {
         Fault::Refused(fault.into())
     }
 }
@@ -61,6 +37,7 @@ const NONE: Reason = Reason {
     detail: 0,
 };
 
+// The code of a place in the C interface.
 fn place_code(place: Place) -> u32
     ensures { result ≡ place_code place }
 {
@@ -74,23 +51,22 @@ fn place_code(place: Place) -> u32
     }
 }
 
-fn coded(reason: refusals::Reason) -> Reason
-    ensures { result ≡ coded_as reason }
-{
-    Reason {
-        number: u32::from(reason.number),
-        place: place_code(reason.place),
-        detail: reason.detail,
+impl From<refusals::Reason> for Reason {
+    ghost from_gives = { λ x y. y ≡ coded x };
+
+    fn from(reason: refusals::Reason) -> Reason {
+        Reason {
+            number: u32::from(reason.number),
+            place: place_code(reason.place),
+            detail: reason.detail,
+        }
     }
 }
 
 fn carried(reason: Option<refusals::Reason>) -> Reason
     ensures { result ≡ carried_code reason }
 {
-    match reason {
-        Some(reason) => coded(reason),
-        None => NONE,
-    }
+    reason.map_or(NONE, Reason::from)
 }
 
 // A refusal of the calls of boards alone.
@@ -112,7 +88,7 @@ impl From<Fault> for Answer {
             Fault::Pile(pile) => (board(100, u64::from(pile)), NONE),
             Fault::LineName(length) => (board(101, length as u64), NONE),
             Fault::State(number) => (board(102, number), NONE),
-            Fault::Refused(refusal) => (coded(refusal.reason), carried(refusal.carried)),
+            Fault::Refused(refusal) => (refusal.reason.into(), carried(refusal.carried)),
         };
         Answer {
             refusal,

@@ -28,10 +28,7 @@ impl ReceiverState {
         if self.highest > LAST {
             return Err(Fault::State(self.highest));
         }
-        match Window::resume(self.highest, self.marks) {
-            Some(window) => Ok(window),
-            None => Err(Fault::State(self.highest)),
-        }
+        Window::resume(self.highest, self.marks).ok_or(Fault::State(self.highest))
     }
 
     fn keep(&mut self, kept: (u64, u64))

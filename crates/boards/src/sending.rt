@@ -28,10 +28,7 @@ impl SenderState {
     fn counter(&self) -> Result<Counter, Fault>
         ensures { meant counts_of result ≡ standing self.now }
     {
-        match Counter::resume(self.next, outstanding(self.outstanding)) {
-            Some(counter) => Ok(counter),
-            None => Err(Fault::State(self.next)),
-        }
+        Counter::resume(self.next, outstanding(self.outstanding)).ok_or(Fault::State(self.next))
     }
 
     fn keep(&mut self, counter: &Counter)
