@@ -5,6 +5,7 @@ use Rattle.expanders.specs.declared.fault.PastReach.{PastReach}
 use Rattle.ciphers.specs.Admitted.{Admitted}
 use Rattle.ciphers.specs.declared.wide.WideCipher.{Ghosts as Cipher}
 use Rattle.hashes.specs.declared.keyed.KeyedHash.{Ghosts as Hash}
+use Rattle.sealing.specs.declared.line.Line.{Line}
 
 pub record Meaning : Type 0 where
   pub lowest : ℕ
@@ -18,6 +19,9 @@ pub record Meaning : Type 0 where
 abbrev pub meaning : {C J : Type 0} → Cipher C → Hash J → C → J → List ℕ → Meaning
 meaning c j cipher hash line =
     record { lowest = c.lowest cipher; highest = c.highest cipher; carried = c.carried cipher; enc = c.enc cipher; dec = c.dec cipher; hash = j.value hash; line = line }
+
+abbrev pub meaning_of : {C J : Type 0} → Cipher C → Hash J → Line C J → Meaning
+meaning_of c j l = meaning c j l.cipher l.hash l.name.bytes
 
 -- the laws that a wide cipher and a keyed hash promise, for a name of 8 bytes
 pub record Lawful (m : Meaning) : Type 0 where

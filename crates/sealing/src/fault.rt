@@ -2,11 +2,9 @@
 ghost use Rattle.std.specs.Prelude.{◌≡◌};
 ghost use Rattle.sealing.specs.Refusals.{told};
 ghost use Rattle.sealing.specs.declared.fault.SealingFault.TheVariants.{Cipher};
-ghost use Rattle.refusals.specs.Table.{alone, because};
-ghost use Rattle.refusals.specs.declared.Place.TheVariants.{Sealing};
 
 use ciphers::CipherFault;
-use refusals::{Place, Reason, Refusal};
+use refusals::{Place, Refusal};
 
 #[derive(Clone, Copy, PartialEq, Eq, Debug)]
 pub enum SealingFault {
@@ -33,32 +31,19 @@ impl From<CipherFault> for SealingFault {
     }
 }
 
-fn refusal(number: u8, detail: u64) -> Refusal
-    ensures { result ≡ alone (because number Sealing detail) }
-{
-    let reason = Reason {
-        number,
-        place: Place::Sealing,
-        detail,
-    };
-    Refusal {
-        reason,
-        carried: None,
-    }
-}
-
 impl From<SealingFault> for Refusal {
     ghost from_gives = { λ f r. r ≡ told f };
 
     fn from(fault: SealingFault) -> Refusal {
-        match fault {
-            SealingFault::RecordShort(length) => refusal(7, length as u64),
-            SealingFault::HeaderLong(length) => refusal(8, length as u64),
-            SealingFault::Cipher(fault) => fault.into(),
-            SealingFault::WorkShort(needed) => refusal(9, needed as u64),
-            SealingFault::AreaShort(needed) => refusal(10, needed as u64),
-            SealingFault::NumberOutside(number) => refusal(11, number),
-            SealingFault::NoSealing => refusal(12, 0),
-        }
+        let (number, detail) = match fault {
+            SealingFault::RecordShort(length) => (7, length as u64),
+            SealingFault::HeaderLong(length) => (8, length as u64),
+            SealingFault::Cipher(fault) => return fault.into(),
+            SealingFault::WorkShort(needed) => (9, needed as u64),
+            SealingFault::AreaShort(needed) => (10, needed as u64),
+            SealingFault::NumberOutside(number) => (11, number),
+            SealingFault::NoSealing => (12, 0),
+        };
+        Refusal::alone(number, Place::Sealing, detail)
     }
 }

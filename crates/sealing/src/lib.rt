@@ -11,8 +11,6 @@ mod plain_seal;
 
 pub use fault::SealingFault;
 pub use guard::Work;
-pub use laws::lawful;
 pub use limits::LAST;
-pub use line::LineName;
-pub use plain_open::{Opened, examine, open};
-pub use plain_seal::seal;
+pub use line::{Line, LineName};
+pub use plain_open::Opened;

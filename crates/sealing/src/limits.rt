@@ -24,10 +24,7 @@ pub(crate) fn judge_header(header: &[u8]) -> Result<(), SealingFault>
 pub(crate) fn judge_number(number: u64) -> Result<u64, SealingFault>
     ensures { result ≡ numbered number (Ok number) }
 {
-    if number < 1 {
-        return Err(SealingFault::NumberOutside(number));
-    }
-    if number > LAST {
+    if !(1..=LAST).contains(&number) {
         return Err(SealingFault::NumberOutside(number));
     }
     Ok(number)

@@ -1,4 +1,4 @@
-// The name of a line.
+// A line: its cipher, its header hash and its name.
 ghost use Rattle.std.specs.Prelude.{◌≡◌, length};
 ghost use Rattle.octets.specs.Strings.{Bytes};
 
@@ -19,4 +19,12 @@ impl LineName {
         known(bytes);
         LineName { bytes: *bytes }
     }
+}
+
+#[derive(Clone, Copy, Drop)]
+pub struct Line<C, J> {
+    pub cipher: C,
+    // The header hash.
+    pub hash: J,
+    pub name: LineName,
 }

@@ -1,7 +1,7 @@
 use Rattle.std.proofs.Common.{◌≡◌, length, ap, ◌∙◌, rules}
 use Rattle.octets.specs.Strings.{zeros}
 use Rattle.sealing.proofs.Sealings.{exactly}
-use Rattle.sealing.proofs.plain_open.open.Goals as goal
+use Rattle.sealing.proofs.line.Line.open.Goals as goal
 
 pub returns : goal.returns
 returns g c =

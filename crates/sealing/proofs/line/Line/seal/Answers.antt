@@ -1,5 +1,5 @@
 use Rattle.sealing.proofs.Sealings.{seals}
-use Rattle.sealing.proofs.plain_seal.seal.Goals as goal
+use Rattle.sealing.proofs.line.Line.seal.Goals as goal
 
 pub returns : goal.returns
 returns g c = record {

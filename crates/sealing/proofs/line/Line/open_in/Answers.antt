@@ -1,22 +1,22 @@
 use Rattle.std.proofs.Common.{◌≡◌, ◌-◌, length, ap, ◌∙◌, arith}
 use Rattle.sealing.proofs.Examined.{examined}
 use Rattle.sealing.proofs.Opening.{tagged_ok, copied-out}
-use Rattle.sealing.proofs.plain_open.open_in.Goals as goal
+use Rattle.sealing.proofs.line.Line.open_in.Goals as goal
 
 pub overflow_sub-length : goal.overflow_sub-length
 overflow_sub-length g c =
     let x = examined _ _ _ _ c.args.record.now _ _ _ c.in_ok-number.ensures in
-    omega (arith, x.low, g.met.C.WideCipher.least c.args.cipher.now)
+    omega (arith, x.low, g.met.C.WideCipher.least c.args.self.now.cipher)
 
 pub slice_bounds-copy_from_slice-count-2 : goal.slice_bounds-copy_from_slice-count-2
 slice_bounds-copy_from_slice-count-2 g c =
     let x = examined _ _ _ _ c.args.record.now _ _ _ c.in_ok-number.ensures in
-    omega (arith, x.low, g.met.C.WideCipher.least c.args.cipher.now)
+    omega (arith, x.low, g.met.C.WideCipher.least c.args.self.now.cipher)
 
 pub slice_bounds-copy_from_slice-start-2 : goal.slice_bounds-copy_from_slice-start-2
 slice_bounds-copy_from_slice-start-2 g c =
     let x = examined _ _ _ _ c.args.record.now _ _ _ c.in_ok-number.ensures in
-    omega (arith, x.low, g.met.C.WideCipher.least c.args.cipher.now)
+    omega (arith, x.low, g.met.C.WideCipher.least c.args.self.now.cipher)
 
 pub returns : goal.returns
 returns g c =
