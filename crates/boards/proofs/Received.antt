@@ -7,14 +7,17 @@ use Rattle.octets.specs.Strings.{same}
 use Rattle.sealing.proofs.Examined.{examined}
 use Rattle.sealing.proofs.Sealings.{tagged-by}
 use Rattle.sealing.specs.Calls.{examining, opening, plain}
-use Rattle.sealing.specs.Meaning.{Meaning, meaning}
+use Rattle.sealing.specs.Meaning.{Meaning, meaning, meaning_of}
 use Rattle.sealing.specs.Sealing.{tag}
 use Rattle.sealing.specs.declared.fault.SealingFault.{SealingFault}
 use Rattle.sealing.specs.declared.plain_open.Opened.{Opened}
 use Rattle.ends.specs.Receiving.{opened, windowed, examined_by, receiving}
-use Rattle.ends.specs.Sending.{Parts}
-use Rattle.ends.specs.Window.{Marks, Accepts, judging, possible}
+use Rattle.ends.specs.Sending.{Parts, parts}
+use Rattle.ends.specs.Window.{Accepts, judging, possible}
 use Rattle.ends.specs.declared.fault.WindowFault.{WindowFault}
+use Rattle.ends.specs.declared.window.Marks.{Marks}
+use Rattle.sealing.specs.declared.line.Line.{Line}
+use Rattle.boards.specs.Done.{done}
 use Rattle.boards.specs.Plain.{on}
 use Rattle.boards.specs.Receiving.{marks_of, standing, received_as, received_by, Leaves}
 use Rattle.boards.specs.declared.fault.Fault.{Fault}
@@ -22,12 +25,8 @@ use Rattle.boards.specs.declared.fault.Fault.TheVariants.{State}
 use Rattle.boards.specs.declared.state.ReceiverState.{ReceiverState}
 
 -- the same parts mean the same
-pub same-meaning : {C J : Type 0} (c : Cipher C) (j : Hash J) (p q : Parts C J) → p ≡ q → meaning c j p.cipher p.hash p.line ≡ meaning c j q.cipher q.hash q.line
-same-meaning c j p q e = ap (λ x. meaning c j x.cipher x.hash x.line) e
-
--- two numbers kept, as the marks that they are
-pub as-marks : (p : ℕ × ℕ) (top w : ℕ) → p ≡ (top, w) → ◌≡◌ {A = Marks} (record { highest = p.0; marks = p.1 }) (record { highest = top; marks = w })
-as-marks p top w e = ap (λ x. record { highest = x.0; marks = x.1 }) e
+pub same-meaning : {C J : Type 0} (c : Cipher C) (j : Hash J) (l : Line C J) (p : Parts C J) → p ≡ parts l → meaning c j p.cipher p.hash p.line ≡ meaning_of c j l
+same-meaning c j l p e = ap (λ x. meaning c j x.cipher x.hash x.line) e
 
 -- an answer that is not refused passed each judge
 opened-ok : (y : Result Opened SealingFault) (o : Opened) → Ok o ≡ opened y → Ok o ≡ y
@@ -67,14 +66,14 @@ module _ (m : Meaning) (s s' : ReceiverState) (w w₁ w₂ : Marks) (header r : 
   low : s.highest ≤ 2 ^ 40
   low = ltb-false (2 ^ 40) s.highest (stood (ltb (2 ^ 40) s.highest) (State s.highest) _ w before).0
 
-  pub took-answer : Ok (record { number = o.number; length = o.length }) ≡ received_by m s header r work text
+  pub took-answer : Ok (done o) ≡ received_by m s header r work text
   took-answer =
       ap received_as (took ∙ ap (λ v. receiving m v header r work text) resumed) ∙ ap (λ v. on v (λ x. received_as (receiving m x header r work text))) before
 
   joined : Accepts (marks_of s) o.number (marks_of s')
   joined = subst (λ v. Accepts v o.number (marks_of s')) (resumed ∙ is) (subst (λ v. Accepts w₁ o.number v) (sym after) accepts)
 
-  pub took-after : Leaves (Ok (record { number = o.number; length = o.length })) s s'
+  pub took-after : Leaves (Ok (done o)) s s'
   took-after =
       let top : s'.highest ≡ max s.highest o.number = joined.highest in
       let few : o.number ≤ 2 ^ 40 = numbered m w₁ header r work text o took in

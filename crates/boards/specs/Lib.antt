@@ -1,3 +1,4 @@
+pub mod Done
 pub mod Told
 pub mod Lines
 pub mod Plain

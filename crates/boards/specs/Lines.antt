@@ -15,7 +15,7 @@ use Rattle.boards.specs.declared.fault.Fault.TheVariants.{Pile, LineName, Refuse
 use Rattle.boards.specs.declared.brought.Brought.{Brought}
 use Rattle.boards.specs.declared.line.AnyLine.{AnyLine}
 use Rattle.boards.specs.declared.line.AnyLine.TheVariants.{A, B}
-use Rattle.boards.specs.declared.line.Line.{Line}
+use Rattle.sealing.specs.declared.line.Line.{Line}
 
 -- what follows where the length of a key fits, and else its refusal
 abbrev pub keyed : {T : Type 0} → Bool → List ℕ → Result T Fault → Result T Fault

@@ -7,6 +7,7 @@ use Rattle.sealing.specs.Refusals.{told}
 use Rattle.sealing.specs.Sealing.{record_of}
 use Rattle.sealing.specs.declared.fault.SealingFault.{SealingFault}
 use Rattle.sealing.specs.declared.plain_open.Opened.{Opened}
+use Rattle.boards.specs.Done.{done}
 use Rattle.boards.specs.Told.{answered}
 use Rattle.boards.specs.declared.answer.Answer.{Answer}
 use Rattle.boards.specs.declared.answer.Done.{Done}
@@ -28,9 +29,9 @@ abbrev pub sealed_as : ℕ → Result ℕ SealingFault → Result Done Fault
 sealed_as n (Ok k) = Ok (record { number = n; length = k })
 sealed_as n (Err f) = Err (Refused (told f))
 
--- the number of a record, with the length of its text
+-- an opening, as it is answered
 abbrev pub opened_as : Result Opened SealingFault → Result Done Fault
-opened_as (Ok o) = Ok (record { number = o.number; length = o.length })
+opened_as (Ok o) = Ok (done o)
 opened_as (Err f) = Err (Refused (told f))
 
 abbrev pub sealed : Result Meaning Fault → ℕ → List ℕ → List ℕ → ℕ → Result Done Fault

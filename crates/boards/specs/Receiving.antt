@@ -7,8 +7,10 @@ use Rattle.sealing.specs.declared.plain_open.Opened.{Opened}
 use Rattle.ends.specs.Receiving.{receiving}
 use Rattle.ends.specs.Refusals.{told_receiver}
 use Rattle.ends.specs.Sending.{last}
-use Rattle.ends.specs.Window.{Marks, Accepts, fresh, possible}
+use Rattle.ends.specs.Window.{Accepts, fresh, possible}
+use Rattle.ends.specs.declared.window.Marks.{Marks}
 use Rattle.ends.specs.declared.fault.ReceiverFault.{ReceiverFault}
+use Rattle.boards.specs.Done.{done}
 use Rattle.boards.specs.Plain.{on, written}
 use Rattle.boards.specs.Told.{answered}
 use Rattle.boards.specs.declared.answer.Answer.{Answer}
@@ -33,7 +35,7 @@ Leaves (Err f) s s' = s' ≡ s
 
 -- the number of the record, with the length of its text
 abbrev pub received_as : Result Opened ReceiverFault → Result Done Fault
-received_as (Ok o) = Ok (record { number = o.number; length = o.length })
+received_as (Ok o) = Ok (done o)
 received_as (Err f) = Err (Refused (told_receiver f))
 
 abbrev pub received_by : Meaning → ReceiverState → List ℕ → List ℕ → ℕ → ℕ → Result Done Fault

@@ -3,7 +3,8 @@ use Rattle.std.specs.Prelude.{◌≡◌, ℕ, true, cond, List, length, Some, No
 use Rattle.sealing.specs.Meaning.{Meaning}
 use Rattle.sealing.specs.Sealing.{record_of}
 use Rattle.ends.specs.Refusals.{told}
-use Rattle.ends.specs.Sending.{Counting, possible, starting, ticket_of, drawing, after_draw, giving_up, sealing_with}
+use Rattle.ends.specs.Sending.{possible, starting, ticket_of, drawing, after_draw, giving_up, sealing_with}
+use Rattle.ends.specs.declared.counter.Counts.{Counts}
 use Rattle.ends.specs.declared.fault.SenderFault.{SenderFault}
 use Rattle.ends.specs.declared.ticket.Returned.{Returned}
 use Rattle.ends.specs.declared.ticket.Ticket.{Ticket}
@@ -23,18 +24,18 @@ abbrev pub or_zero : Option ℕ → ℕ
 or_zero None = 0
 or_zero (Some n) = n
 
-abbrev pub counting_of : SenderState → Counting
+abbrev pub counting_of : SenderState → Counts
 counting_of s = record { next = s.next; outstanding = outstanding_of s.outstanding }
 
-abbrev pub kept_of : Counting → SenderState
+abbrev pub kept_of : Counts → SenderState
 kept_of c = record { next = c.next; outstanding = or_zero c.outstanding }
 
 -- where the sender stands, if one can stand so
-abbrev pub standing : SenderState → Result Counting Fault
+abbrev pub standing : SenderState → Result Counts Fault
 standing s = cond (possible (counting_of s)) (Ok (counting_of s)) (Err (State s.next))
 
 -- what a call did leaves the numbers kept at c; a refusal leaves them as they were
-abbrev pub leaves : {T E : Type 0} → Result T E → Counting → SenderState → SenderState
+abbrev pub leaves : {T E : Type 0} → Result T E → Counts → SenderState → SenderState
 leaves (Ok d) c s = kept_of c
 leaves (Err f) c s = s
 
@@ -44,7 +45,7 @@ Lasts (Ok d) s = possible (counting_of s) ≡ true
 Lasts (Err f) s = Unit {0}
 
 -- the number that is drawn first
-abbrev pub started_as : Result Counting SenderFault → Result Done Fault
+abbrev pub started_as : Result Counts SenderFault → Result Done Fault
 started_as (Ok c) = Ok (record { number = c.next; length = 0 })
 started_as (Err f) = Err (Refused (told f))
 
@@ -79,14 +80,14 @@ abbrev pub sealed_with : Result Meaning Fault → SenderState → ℕ → List �
 sealed_with l s n header text area = on l (λ m. sealed_by m s n (length header) (length text) area)
 
 -- where each call leaves a sender that it does not refuse
-abbrev pub after_drawing : SenderState → Counting
+abbrev pub after_drawing : SenderState → Counts
 after_drawing s = after_draw (drawing (counting_of s)) (counting_of s)
 
-abbrev pub after_spent : SenderState → Counting
+abbrev pub after_spent : SenderState → Counts
 after_spent s = record { next = s.next; outstanding = None }
 
 -- a call that came so: what is answered, and the numbers kept afterwards, at c where it was not refused
-pub record Sends (came : Result Done Fault) (c : Counting) (s : SenderState) (a : Answer) (s' : SenderState) : Type 0 where
+pub record Sends (came : Result Done Fault) (c : Counts) (s : SenderState) (a : Answer) (s' : SenderState) : Type 0 where
   pub answer : a ≡ answered came
   pub after : s' ≡ leaves came c s
   pub lasting : Lasts came s'

@@ -1,4 +1,8 @@
 // What a call answers to a board.
+ghost use Rattle.boards.specs.Done.{done};
+ghost use Rattle.std.specs.Prelude.{◌≡◌};
+
+use sealing::Opened;
 
 // The number of a refusal, the code of its place and its detail; all 0 where there is none.
 #[repr(C)]
@@ -24,4 +28,13 @@ pub struct Answer {
 pub struct Done {
     pub number: u64,
     pub length: usize,
+}
+
+impl From<Opened> for Done {
+    ghost from_gives = { λ o d. d ≡ done o };
+
+    fn from(opened: Opened) -> Done {
+        let Opened { number, length } = opened;
+        Done { number, length }
+    }
 }

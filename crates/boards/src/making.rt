@@ -4,10 +4,10 @@ ghost use Rattle.boards.specs.Lines.{keys_by, keys_in, line_brought, meant_by, m
 
 use crate::brought::Brought;
 use crate::fault::Fault;
-use crate::line::{AnyLine, Line};
+use crate::line::AnyLine;
 use ciphers::Ddd;
 use from_key::FromKey;
-use sealing::LineName;
+use sealing::{Line, LineName};
 
 // The name of a line, of 8 bytes.
 fn line_name(name: &[u8]) -> Result<LineName, Fault>

@@ -1,33 +1,25 @@
 // Plain seal and plain open: what a board calls to seal and open without an end.
 ghost use Rattle.std.specs.Prelude.{◌≡◌, length};
 ghost use Rattle.sealing.specs.Calls.{sealing as sealing_of, opening, placed, text_of};
-ghost use Rattle.sealing.specs.Meaning.{meaning};
 ghost use Rattle.sealing.specs.Sealing.{record_of};
-ghost use Rattle.boards.specs.Lines.{line_of, line_brought};
+ghost use Rattle.boards.specs.Lines.{line_of, line_brought, meant_by};
 ghost use Rattle.boards.specs.Plain.{sealed, opened, sealed_as, opened_as, written, Seals, Opens};
 
 use crate::answer::{Answer, Done};
 use crate::brought::Brought;
 use crate::fault::{Fault, answer};
-use crate::line::{AnyLine, Line};
-use ciphers::WideCipher;
-use hashes::KeyedHash;
-use sealing::{Work, open, seal};
+use crate::line::AnyLine;
+use sealing::Work;
 
-impl<C: WideCipher, J: KeyedHash> Line<C, J> {
+impl AnyLine {
     fn seal(&self, number: u64, header: &[u8], text: &[u8], area: &mut [u8]) -> Result<Done, Fault>
-        ensures answer { result ≡ sealed_as number (sealing_of (meaning C.WideCipher J.KeyedHash self.now.cipher self.now.hash self.now.name.bytes) number (length header.now) (length text.now) (length area.old)) }
-        ensures after { area.new ≡ placed result area.old (record_of (meaning C.WideCipher J.KeyedHash self.now.cipher self.now.hash self.now.name.bytes) header.now number text.now) }
+        ensures answer { result ≡ sealed_as number (sealing_of (meant_by self.now) number (length header.now) (length text.now) (length area.old)) }
+        ensures after { area.new ≡ placed result area.old (record_of (meant_by self.now) header.now number text.now) }
     {
-        let length = seal(
-            &self.cipher,
-            &self.hash,
-            &self.name,
-            number,
-            header,
-            text,
-            area,
-        )?;
+        let length = match self {
+            AnyLine::A(line) => line.seal(number, header, text, area)?,
+            AnyLine::B(line) => line.seal(number, header, text, area)?,
+        };
         Ok(Done { number, length })
     }
 
@@ -38,22 +30,14 @@ impl<C: WideCipher, J: KeyedHash> Line<C, J> {
         work: &mut [u8],
         text: &mut [u8],
     ) -> Result<Done, Fault>
-        ensures answer { result ≡ opened_as (opening (meaning C.WideCipher J.KeyedHash self.now.cipher self.now.hash self.now.name.bytes) header.now «record».now (length work.old) (length text.old)) }
-        ensures after { text.new ≡ placed result text.old (text_of (meaning C.WideCipher J.KeyedHash self.now.cipher self.now.hash self.now.name.bytes) «record».now) }
+        ensures answer { result ≡ opened_as (opening (meant_by self.now) header.now «record».now (length work.old) (length text.old)) }
+        ensures after { text.new ≡ placed result text.old (text_of (meant_by self.now) «record».now) }
     {
-        let opened = open(
-            &self.cipher,
-            &self.hash,
-            &self.name,
-            header,
-            record,
-            work,
-            text,
-        )?;
-        Ok(Done {
-            number: opened.number,
-            length: opened.length,
-        })
+        let opened = match self {
+            AnyLine::A(line) => line.open(header, record, work, text)?,
+            AnyLine::B(line) => line.open(header, record, work, text)?,
+        };
+        Ok(opened.into())
     }
 }
 
@@ -62,10 +46,7 @@ impl Brought<'_> {
         ensures answer { result ≡ sealed (line_brought self.now) number header.now text.now (length area.old) }
         ensures after { area.new ≡ written (line_brought self.now) result (λ m. record_of m header.now number text.now) area.old }
     {
-        match self.line()? {
-            AnyLine::A(line) => line.seal(number, header, text, area),
-            AnyLine::B(line) => line.seal(number, header, text, area),
-        }
+        self.line()?.seal(number, header, text, area)
     }
 
     fn open(
@@ -78,10 +59,7 @@ impl Brought<'_> {
         ensures answer { result ≡ opened (line_brought self.now) header.now «record».now (length work.old) (length text.old) }
         ensures after { text.new ≡ written (line_brought self.now) result (λ m. text_of m «record».now) text.old }
     {
-        match self.line()? {
-            AnyLine::A(line) => line.open(header, record, work, text),
-            AnyLine::B(line) => line.open(header, record, work, text),
-        }
+        self.line()?.open(header, record, work, text)
     }
 }
 

@@ -2,23 +2,20 @@
 ghost use Rattle.std.specs.Prelude.{◌≡◌, length};
 ghost use Rattle.ends.specs.Window.{window_of};
 ghost use Rattle.sealing.specs.Calls.{placed, text_of};
-ghost use Rattle.sealing.specs.Meaning.{meaning};
-ghost use Rattle.boards.specs.Lines.{line_of, line_brought, meant};
+ghost use Rattle.sealing.specs.Meaning.{meaning_of};
+ghost use Rattle.boards.specs.Lines.{line_of, line_brought, meant_by, meant};
 ghost use Rattle.boards.specs.Plain.{written};
 ghost use Rattle.boards.specs.Receiving.{marks_of, standing, Leaves, received_by, received, Makes, Receives};
 
 use crate::answer::{Answer, Done};
 use crate::brought::Brought;
 use crate::fault::{Fault, answer};
-use crate::line::{AnyLine, Line};
+use crate::line::AnyLine;
 use crate::state::ReceiverState;
 use ciphers::WideCipher;
-use ends::{Receiver, Window};
+use ends::{Marks, Receiver, Window};
 use hashes::KeyedHash;
-use sealing::Work;
-
-// The last number of a line.
-const LAST: u64 = 1 << 40;
+use sealing::{LAST, Line, Work};
 
 impl ReceiverState {
     // The window that stands at the numbers kept.
@@ -28,19 +25,42 @@ impl ReceiverState {
         if self.highest > LAST {
             return Err(Fault::State(self.highest));
         }
-        Window::resume(self.highest, self.marks).ok_or(Fault::State(self.highest))
+        let accepted = Marks {
+            highest: self.highest,
+            marks: self.marks,
+        };
+        Window::resume(accepted).ok_or(Fault::State(self.highest))
     }
 
-    fn keep(&mut self, kept: (u64, u64))
-        ensures { marks_of self.new ≡ record { highest = kept.0; marks = kept.1 } }
+    fn keep(&mut self, accepted: Marks)
+        ensures { marks_of self.new ≡ accepted }
     {
-        let (highest, marks) = kept;
-        self.highest = highest;
-        self.marks = marks;
+        self.highest = accepted.highest;
+        self.marks = accepted.marks;
+    }
+
+    // Takes a record in on a line.
+    fn receive<C: WideCipher + Drop, J: KeyedHash + Drop>(
+        &mut self,
+        line: Line<C, J>,
+        header: &[u8],
+        record: &[u8],
+        work: &mut [u8],
+        text: &mut [u8],
+    ) -> Result<Done, Fault>
+        ensures answer { result ≡ received_by (meaning_of C.WideCipher J.KeyedHash line) self.old header.now «record».now (length work.old) (length text.old) }
+        ensures after { Leaves result self.old self.new }
+        ensures area { text.new ≡ placed result text.old (text_of (meaning_of C.WideCipher J.KeyedHash line) «record».now) }
+    {
+        let window = self.window()?;
+        let mut receiver = Receiver::resume(line, window);
+        let opened = receiver.receive(header, record, work, text)?;
+        self.keep(receiver.kept());
+        Ok(opened.into())
     }
 }
 
-impl<C: WideCipher + Drop, J: KeyedHash + Drop> Line<C, J> {
+impl AnyLine {
     fn receive(
         self,
         state: &mut ReceiverState,
@@ -49,19 +69,14 @@ impl<C: WideCipher + Drop, J: KeyedHash + Drop> Line<C, J> {
         work: &mut [u8],
         text: &mut [u8],
     ) -> Result<Done, Fault>
-        ensures answer { result ≡ received_by (meaning C.WideCipher J.KeyedHash self.cipher self.hash self.name.bytes) state.old header.now «record».now (length work.old) (length text.old) }
+        ensures answer { result ≡ received_by (meant_by self) state.old header.now «record».now (length work.old) (length text.old) }
         ensures after { Leaves result state.old state.new }
-        ensures area { text.new ≡ placed result text.old (text_of (meaning C.WideCipher J.KeyedHash self.cipher self.hash self.name.bytes) «record».now) }
+        ensures area { text.new ≡ placed result text.old (text_of (meant_by self) «record».now) }
     {
-        let window = state.window()?;
-        let Line { cipher, hash, name } = self;
-        let mut receiver = Receiver::resume(cipher, hash, name, window);
-        let opened = receiver.receive(header, record, work, text)?;
-        state.keep(receiver.kept());
-        Ok(Done {
-            number: opened.number,
-            length: opened.length,
-        })
+        match self {
+            AnyLine::A(line) => state.receive(line, header, record, work, text),
+            AnyLine::B(line) => state.receive(line, header, record, work, text),
+        }
     }
 }
 
@@ -78,10 +93,7 @@ impl Brought<'_> {
         ensures after { Leaves result state.old state.new }
         ensures area { text.new ≡ written (line_brought self.now) result (λ m. text_of m «record».now) text.old }
     {
-        match self.line()? {
-            AnyLine::A(line) => line.receive(state, header, record, work, text),
-            AnyLine::B(line) => line.receive(state, header, record, work, text),
-        }
+        self.line()?.receive(state, header, record, work, text)
     }
 }
 

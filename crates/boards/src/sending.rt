@@ -2,40 +2,39 @@
 ghost use Rattle.std.specs.Prelude.{◌≡◌, true, length};
 ghost use Rattle.ends.specs.Sending.{possible, counts_of, started};
 ghost use Rattle.sealing.specs.Calls.{placed};
-ghost use Rattle.sealing.specs.Meaning.{meaning};
+ghost use Rattle.sealing.specs.Meaning.{meaning_of};
 ghost use Rattle.sealing.specs.Sealing.{record_of};
-ghost use Rattle.boards.specs.Lines.{line_of, line_brought, meant};
+ghost use Rattle.boards.specs.Lines.{line_of, line_brought, meant_by, meant};
 ghost use Rattle.boards.specs.Plain.{written};
-ghost use Rattle.boards.specs.Sending.{outstanding_of, counting_of, kept_of, standing, leaves, Lasts, made, drew, gave_up, sealed_by, sealed_with, after_drawing, after_spent, Sends, SealsWith};
+ghost use Rattle.boards.specs.Sending.{counting_of, kept_of, standing, leaves, Lasts, made, drew, gave_up, sealed_by, sealed_with, after_drawing, after_spent, Sends, SealsWith};
 
 use crate::answer::{Answer, Done};
 use crate::brought::Brought;
 use crate::fault::{Fault, answer};
-use crate::line::{AnyLine, Line};
+use crate::line::AnyLine;
 use crate::state::SenderState;
 use ciphers::WideCipher;
-use ends::Counter;
+use ends::{Counter, Counts};
 use hashes::KeyedHash;
-
-fn outstanding(number: u64) -> Option<u64>
-    ensures { result ≡ outstanding_of number }
-{
-    Some(number).filter(|n| *n != 0)
-}
+use sealing::Line;
 
 impl SenderState {
     // The counter that stands at the numbers kept.
     fn counter(&self) -> Result<Counter, Fault>
         ensures { meant counts_of result ≡ standing self.now }
     {
-        Counter::resume(self.next, outstanding(self.outstanding)).ok_or(Fault::State(self.next))
+        let counts = Counts {
+            next: self.next,
+            outstanding: Some(self.outstanding).filter(|number| *number != 0),
+        };
+        Counter::resume(counts).ok_or(Fault::State(self.next))
     }
 
     fn keep(&mut self, counter: &Counter)
         ensures kept { self.new ≡ kept_of (counts_of counter.now) }
         ensures lasting { possible (counting_of self.new) ≡ true }
     {
-        let (next, outstanding) = counter.kept();
+        let Counts { next, outstanding } = counter.kept();
         self.next = next;
         self.outstanding = outstanding.unwrap_or(0);
     }
@@ -74,9 +73,32 @@ impl SenderState {
         self.keep(&counter);
         Ok(Done { number, length: 0 })
     }
+
+    // Seals on a line, under the number outstanding.
+    fn seal<C: WideCipher, J: KeyedHash>(
+        &mut self,
+        line: &Line<C, J>,
+        ticket: u64,
+        header: &[u8],
+        text: &[u8],
+        area: &mut [u8],
+    ) -> Result<Done, Fault>
+        ensures answer { result ≡ sealed_by (meaning_of C.WideCipher J.KeyedHash line.now) self.old ticket (length header.now) (length text.now) (length area.old) }
+        ensures after { self.new ≡ leaves result (after_spent self.old) self.old }
+        ensures lasting { Lasts result self.new }
+        ensures area { area.new ≡ placed result area.old (record_of (meaning_of C.WideCipher J.KeyedHash line.now) header.now ticket text.now) }
+    {
+        let mut counter = self.counter()?;
+        let length = counter.seal(line, ticket, header, text, area)?;
+        self.keep(&counter);
+        Ok(Done {
+            number: ticket,
+            length,
+        })
+    }
 }
 
-impl<C: WideCipher, J: KeyedHash> Line<C, J> {
+impl AnyLine {
     fn seal_with(
         &self,
         state: &mut SenderState,
@@ -85,26 +107,15 @@ impl<C: WideCipher, J: KeyedHash> Line<C, J> {
         text: &[u8],
         area: &mut [u8],
     ) -> Result<Done, Fault>
-        ensures answer { result ≡ sealed_by (meaning C.WideCipher J.KeyedHash self.now.cipher self.now.hash self.now.name.bytes) state.old ticket (length header.now) (length text.now) (length area.old) }
+        ensures answer { result ≡ sealed_by (meant_by self.now) state.old ticket (length header.now) (length text.now) (length area.old) }
         ensures after { state.new ≡ leaves result (after_spent state.old) state.old }
         ensures lasting { Lasts result state.new }
-        ensures area { area.new ≡ placed result area.old (record_of (meaning C.WideCipher J.KeyedHash self.now.cipher self.now.hash self.now.name.bytes) header.now ticket text.now) }
+        ensures area { area.new ≡ placed result area.old (record_of (meant_by self.now) header.now ticket text.now) }
     {
-        let mut counter = state.counter()?;
-        let length = counter.seal(
-            &self.cipher,
-            &self.hash,
-            &self.name,
-            ticket,
-            header,
-            text,
-            area,
-        )?;
-        state.keep(&counter);
-        Ok(Done {
-            number: ticket,
-            length,
-        })
+        match self {
+            AnyLine::A(line) => state.seal(line, ticket, header, text, area),
+            AnyLine::B(line) => state.seal(line, ticket, header, text, area),
+        }
     }
 }
 
@@ -122,10 +133,7 @@ impl Brought<'_> {
         ensures lasting { Lasts result state.new }
         ensures area { area.new ≡ written (line_brought self.now) result (λ m. record_of m header.now ticket text.now) area.old }
     {
-        match self.line()? {
-            AnyLine::A(line) => line.seal_with(state, ticket, header, text, area),
-            AnyLine::B(line) => line.seal_with(state, ticket, header, text, area),
-        }
+        self.line()?.seal_with(state, ticket, header, text, area)
     }
 }
 
