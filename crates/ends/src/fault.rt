@@ -47,16 +47,10 @@ impl From<ReceiverFault> for Refusal {
     fn from(fault: ReceiverFault) -> Refusal {
         match fault {
             ReceiverFault::Sealing(fault) => fault.into(),
-            ReceiverFault::Window(WindowFault::TooOld(highest)) => Refusal::alone(
-                16,
-                Place::Receiver,
-                highest,
-            ),
-            ReceiverFault::Window(WindowFault::AcceptedEarlier(number)) => Refusal::alone(
-                17,
-                Place::Receiver,
-                number,
-            ),
+            ReceiverFault::Window(fault) => match fault {
+                WindowFault::TooOld(highest) => Refusal::alone(16, Place::Receiver, highest),
+                WindowFault::AcceptedEarlier(number) => Refusal::alone(17, Place::Receiver, number),
+            },
         }
     }
 }

@@ -40,28 +40,6 @@ impl<C, J> Receiver<C, J> {
 }
 
 impl<C: WideCipher, J: KeyedHash> Receiver<C, J> {
-    // The work of `receive`, which leaves what it likes in the work area.
-    fn receive_in(
-        &mut self,
-        header: &[u8],
-        record: &[u8],
-        work: &mut [u8],
-        text: &mut [u8],
-    ) -> Result<Opened, ReceiverFault>
-        ensures answer { result ≡ receiving (meaning_of C.WideCipher J.KeyedHash self.old) (marks_of self.old) header.now «record».now (length work.old) (length text.old) }
-        ensures after { Marking result (marks_of self.old) (marks_of self.new) }
-        ensures parts { parts_of self.new ≡ parts_of self.old }
-        ensures area { text.new ≡ placed result text.old (text_of (meaning_of C.WideCipher J.KeyedHash self.old) «record».now) }
-    {
-        let number = self.line.examine(header, record, work.len(), text.len())?;
-        self.window.judge(number)?;
-        let opened = self.line.open(header, record, work, text)?;
-        if let Err(_) = self.window.accept(opened.number) {
-            unreachable()
-        }
-        Ok(opened)
-    }
-
     // Takes a record in: its text goes to the front of `text`. The work area is all zero afterwards, whatever the answer.
     pub fn receive(
         &mut self,
@@ -77,6 +55,14 @@ impl<C: WideCipher, J: KeyedHash> Receiver<C, J> {
         ensures zeroed { work.new ≡ zeros (length work.old) }
     {
         let guard = Work(work);
-        self.receive_in(header, record, &mut *guard.0, text)
+        let number = self
+            .line
+            .examine(header, record, guard.0.len(), text.len())?;
+        self.window.judge(number)?;
+        let opened = self.line.open(header, record, &mut *guard.0, text)?;
+        if let Err(_) = self.window.accept(opened.number) {
+            unreachable()
+        }
+        Ok(opened)
     }
 }
