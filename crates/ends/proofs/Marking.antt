@@ -5,7 +5,8 @@ use lib.Bits.{bit_or, or_shr, or_step}
 use Rattle.std.proofs.lemmas.Nat.{pow-add, pow_pos, shl-shr, shr-shr, field_of, mod-pow-add, pow_below}
 use Rattle.std.proofs.lemmas.Bool.{both_ways, cases_Bool, cases_eq, cases_lt, cond-false, cond-true, eq-eqb, eqb-true, le-ltb, leb-false, lt-leb, ltb-false, or_cases, or_left, or_right}
 use Rattle.ends.specs.declared.fault.WindowFault.TheVariants.{AcceptedEarlier}
-use Rattle.ends.specs.Window.{Marks, accepted, judging, Accepts}
+use Rattle.ends.specs.Window.{accepted, judging, Accepts}
+use Rattle.ends.specs.declared.window.Marks.{Marks}
 
 abbrev pub bit : ℕ → ℕ → ℕ
 bit w i = w / 2 ^ i % 2

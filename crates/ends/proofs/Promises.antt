@@ -6,7 +6,7 @@ use Rattle.ends.proofs.Receivers.{Stands, receipt, outcome, stands-fresh, stands
 use Rattle.ends.proofs.Senders.{counted, once-ups}
 use Rattle.ends.specs.Promise.{Same, Promise, Accepting, at_first, at_second, drawn, handed_by, numbers, occurs}
 use Rattle.ends.specs.Runs.{Event, draws, seals, gives_up, first_receives, second_receives, Receipt, handed_out, Receives, World, Run}
-use Rattle.ends.specs.Window.{Marks}
+use Rattle.ends.specs.declared.window.Marks.{Marks}
 
 -- one receiver: how its window stands, and that it accepted what was due
 pub record Took (m : Meaning) (es : List Receipt) (w : Marks) : Type 0 where

@@ -15,10 +15,11 @@ use Rattle.ends.proofs.Sameness.{to_same, from-same}
 use Rattle.ends.specs.Promise.{Same, joined, handed_by, numbers, In, Due, Accepting, Alike, none, both, left, right}
 use Rattle.ends.specs.Receiving.{opened, windowed, examined_by, receiving}
 use Rattle.ends.specs.Runs.{Receipt, handed_out, Receives}
-use Rattle.ends.specs.Window.{Marks, fresh, accepted, judging, Accepts}
+use Rattle.ends.specs.Window.{fresh, accepted, judging, Accepts}
 use Rattle.ends.specs.declared.fault.ReceiverFault.{ReceiverFault}
 use Rattle.ends.specs.declared.fault.WindowFault.{WindowFault}
 use Rattle.ends.specs.declared.fault.WindowFault.TheVariants.{TooOld, AcceptedEarlier}
+use Rattle.ends.specs.declared.window.Marks.{Marks}
 
 -- a number that the window takes
 abbrev pub Fresh : Marks → ℕ → Type 0

@@ -8,7 +8,8 @@ use Rattle.sealing.specs.Meaning.{Meaning, Lawful}
 use Rattle.sealing.specs.declared.fault.SealingFault.{SealingFault}
 use Rattle.ends.specs.Promise.{drawn, sealed, given_up, occurs, ups, Sealings}
 use Rattle.ends.specs.Runs.{Event, draws, seals, gives_up, first_receives, second_receives, Draws, GivesUp, Seals, World, Run}
-use Rattle.ends.specs.Sending.{Counting, drawing_at, is_out, wrong_ticket, handed_back}
+use Rattle.ends.specs.Sending.{drawing_at, is_out, wrong_ticket, handed_back}
+use Rattle.ends.specs.declared.counter.Counts.{Counts}
 use Rattle.ends.specs.declared.fault.SenderFault.{SenderFault}
 use Rattle.ends.specs.declared.fault.SenderFault.TheVariants.{UsedUp}
 use Rattle.ends.specs.declared.ticket.Returned.{Returned}
@@ -48,7 +49,7 @@ fitted : (t : Ticket) (v : Result ℕ SealingFault) (k : ℕ) → Ok k ≡ hande
 fitted t (Ok j) k e = let z : k ≡ j = cc in ap (λ (x : ℕ). Ok x) z
 fitted t (Err f) k e = absurd (let z : ◌≡◌ {A = ℕ} 0 1 = cc in omega arith)
 
-pub record Counted (m : Meaning) (first : ℕ) (es : List Event) (c : Counting) : Type 0 where
+pub record Counted (m : Meaning) (first : ℕ) (es : List Event) (c : Counts) : Type 0 where
   pub positive : 1 ≤ first
   pub next : c.next ≡ first + length (drawn es)
   pub upwards : drawn es ≡ ups first (length (drawn es))
@@ -57,14 +58,14 @@ pub record Counted (m : Meaning) (first : ℕ) (es : List Event) (c : Counting) 
   pub sealings : Sealings m es
 
 module _ (m : Meaning) (law : Lawful m) (first : ℕ) where
-  drawn-more : (es : List Event) (c c' : Counting) (a : Result Ticket SenderFault) → Counted m first es c → Draws c a c' → Counted m first (draws a ∷ es) c'
+  drawn-more : (es : List Event) (c c' : Counts) (a : Result Ticket SenderFault) → Counted m first es c → Draws c a c' → Counted m first (draws a ∷ es) c'
   drawn-more es c c' (Ok t) i (e, after) =
       let d = drew c.outstanding c.next t e in
       let n : t.number ≡ first + length (drawn es) = d.1 ∙ i.next in
       let nx = i.next in
       let one = i.positive in
-      let out : c'.outstanding ≡ Some t.number = ap (λ (x : Counting). x.outstanding) after in
-      let nx' : c'.next ≡ c.next + 1 = ap (λ (x : Counting). x.next) after in
+      let out : c'.outstanding ≡ Some t.number = ap (λ (x : Counts). x.outstanding) after in
+      let nx' : c'.next ≡ c.next + 1 = ap (λ (x : Counts). x.next) after in
       record {
         positive = i.positive;
         next = omega arith;
@@ -78,7 +79,7 @@ module _ (m : Meaning) (law : Lawful m) (first : ℕ) where
     where
       some_same : (x y : ℕ) → Some x ≡ Some y → x ≡ y
       some_same x y e = cc
-  drawn-more es c c' (Err f) i (e, after) = subst (λ (x : Counting). Counted m first (draws (Err f) ∷ es) x) (sym after) (record {
+  drawn-more es c c' (Err f) i (e, after) = subst (λ (x : Counts). Counted m first (draws (Err f) ∷ es) x) (sym after) (record {
     positive = i.positive;
     next = i.next;
     upwards = i.upwards;
@@ -88,25 +89,25 @@ module _ (m : Meaning) (law : Lawful m) (first : ℕ) where
   })
 
   -- a ticket that was out and is spent: its number goes from the outstanding to the sealed or the given up
-  out-spent : (c c' : Counting) (n k : ℕ) → c.outstanding ≡ Some n → c' ≡ record { next = c.next; outstanding = None } → (a b d : ℕ) → d ≡ a + b + occurs k (option_to_list c.outstanding) → d ≡ cond (eqb k n) 1 0 + (a + b) + occurs k (option_to_list c'.outstanding)
+  out-spent : (c c' : Counts) (n k : ℕ) → c.outstanding ≡ Some n → c' ≡ record { next = c.next; outstanding = None } → (a b d : ℕ) → d ≡ a + b + occurs k (option_to_list c.outstanding) → d ≡ cond (eqb k n) 1 0 + (a + b) + occurs k (option_to_list c'.outstanding)
   out-spent c c' n k out after a b d p =
       let q : d ≡ a + b + (cond (eqb k n) 1 0 + 0) = p ∙ ap (λ (o : Option ℕ). a + b + occurs k (option_to_list o)) out in
-      let none : c'.outstanding ≡ None = ap (λ (x : Counting). x.outstanding) after in
+      let none : c'.outstanding ≡ None = ap (λ (x : Counts). x.outstanding) after in
       rw none (omega arith)
 
-  unspent : (c c' : Counting) (n : ℕ) → c' ≡ record { next = c.next; outstanding = None } → c'.outstanding ≡ Some n → ⊥
+  unspent : (c c' : Counts) (n : ℕ) → c' ≡ record { next = c.next; outstanding = None } → c'.outstanding ≡ Some n → ⊥
   unspent c c' n after o =
-      let none : c'.outstanding ≡ None = ap (λ (x : Counting). x.outstanding) after in
+      let none : c'.outstanding ≡ None = ap (λ (x : Counts). x.outstanding) after in
       let z : ◌≡◌ {A = ℕ} 0 1 = cc in
       omega arith
 
-  sealed-more : (es : List Event) (c c' : Counting) (t : Ticket) (header text area area' : List ℕ) (a : Result ℕ Returned) → Counted m first es c → Seals m c t header text area area' a c' → Counted m first (seals t header text area area' a ∷ es) c'
+  sealed-more : (es : List Event) (c c' : Counts) (t : Ticket) (header text area area' : List ℕ) (a : Result ℕ Returned) → Counted m first es c → Seals m c t header text area area' a c' → Counted m first (seals t header text area area' a ∷ es) c'
   sealed-more es c c' t header text area area' (Ok k) i s =
       let g = spent (is_out c.outstanding t.number) t (handed_back t (fitting m (length header) (length text) (length area))) k s.answer in
       let out = was-out c.outstanding t.number g.0 in
       let f = fitted t (fitting m (length header) (length text) (length area)) k g.1 in
       let range = i.bounded t.number out in
-      let nx : c'.next ≡ c.next = ap (λ (x : Counting). x.next) s.after in
+      let nx : c'.next ≡ c.next = ap (λ (x : Counts). x.next) s.after in
       record {
         positive = i.positive;
         next = nx ∙ i.next;
@@ -115,7 +116,7 @@ module _ (m : Meaning) (law : Lawful m) (first : ℕ) where
         bounded = λ n o. absurd (unspent c c' n s.after o);
         sealings = (fitting-seals m law header s.header_bytes t.number text area area' k s.text_bytes range.0 range.1 f s.written, i.sealings);
       }
-  sealed-more es c c' t header text area area' (Err f) i s = subst (λ (x : Counting). Counted m first (seals t header text area area' (Err f) ∷ es) x) (sym s.after) (record {
+  sealed-more es c c' t header text area area' (Err f) i s = subst (λ (x : Counts). Counted m first (seals t header text area area' (Err f) ∷ es) x) (sym s.after) (record {
     positive = i.positive;
     next = i.next;
     upwards = i.upwards;
@@ -124,11 +125,11 @@ module _ (m : Meaning) (law : Lawful m) (first : ℕ) where
     sealings = i.sealings;
   })
 
-  given-more : (es : List Event) (c c' : Counting) (t : Ticket) (a : Result ℕ Returned) → Counted m first es c → GivesUp c t a c' → Counted m first (gives_up t a ∷ es) c'
+  given-more : (es : List Event) (c c' : Counts) (t : Ticket) (a : Result ℕ Returned) → Counted m first es c → GivesUp c t a c' → Counted m first (gives_up t a ∷ es) c'
   given-more es c c' t (Ok k) i (e, after) =
       let g = spent (is_out c.outstanding t.number) t (Ok t.number) k e in
       let out = was-out c.outstanding t.number g.0 in
-      let nx : c'.next ≡ c.next = ap (λ (x : Counting). x.next) after in
+      let nx : c'.next ≡ c.next = ap (λ (x : Counts). x.next) after in
       record {
         positive = i.positive;
         next = nx ∙ i.next;
@@ -137,7 +138,7 @@ module _ (m : Meaning) (law : Lawful m) (first : ℕ) where
         bounded = λ n o. absurd (unspent c c' n after o);
         sealings = i.sealings;
       }
-  given-more es c c' t (Err f) i (e, after) = subst (λ (x : Counting). Counted m first (gives_up t (Err f) ∷ es) x) (sym after) (record {
+  given-more es c c' t (Err f) i (e, after) = subst (λ (x : Counts). Counted m first (gives_up t (Err f) ∷ es) x) (sym after) (record {
     positive = i.positive;
     next = i.next;
     upwards = i.upwards;
@@ -159,7 +160,7 @@ module _ (m : Meaning) (law : Lawful m) (first : ℕ) where
   counted m₁ m₂ (draws a ∷ es) w' (w, run, s) = drawn-more es w.sender w'.sender a (counted m₁ m₂ es w run) s.0
   counted m₁ m₂ (seals t h x r r' a ∷ es) w' (w, run, s) = sealed-more es w.sender w'.sender t h x r r' a (counted m₁ m₂ es w run) s.0
   counted m₁ m₂ (gives_up t a ∷ es) w' (w, run, s) = given-more es w.sender w'.sender t a (counted m₁ m₂ es w run) s.0
-  counted m₁ m₂ (first_receives h r k x x' a ∷ es) w' (w, run, s) = let i = counted m₁ m₂ es w run in subst (λ (c : Counting). Counted m first (first_receives h r k x x' a ∷ es) c) (sym s.1) (record {
+  counted m₁ m₂ (first_receives h r k x x' a ∷ es) w' (w, run, s) = let i = counted m₁ m₂ es w run in subst (λ (c : Counts). Counted m first (first_receives h r k x x' a ∷ es) c) (sym s.1) (record {
     positive = i.positive;
     next = i.next;
     upwards = i.upwards;
@@ -167,7 +168,7 @@ module _ (m : Meaning) (law : Lawful m) (first : ℕ) where
     bounded = i.bounded;
     sealings = i.sealings;
   })
-  counted m₁ m₂ (second_receives h r k x x' a ∷ es) w' (w, run, s) = let i = counted m₁ m₂ es w run in subst (λ (c : Counting). Counted m first (second_receives h r k x x' a ∷ es) c) (sym s.1) (record {
+  counted m₁ m₂ (second_receives h r k x x' a ∷ es) w' (w, run, s) = let i = counted m₁ m₂ es w run in subst (λ (c : Counts). Counted m first (second_receives h r k x x' a ∷ es) c) (sym s.1) (record {
     positive = i.positive;
     next = i.next;
     upwards = i.upwards;

@@ -3,25 +3,27 @@ use Rattle.std.specs.Prelude.{◌≡◌, ℕ, List, length, Ok, Err, Result}
 use Rattle.ciphers.specs.declared.wide.WideCipher.{Ghosts as Cipher}
 use Rattle.hashes.specs.declared.keyed.KeyedHash.{Ghosts as Hash}
 use Rattle.sealing.specs.Calls.{examining, opening}
-use Rattle.sealing.specs.Meaning.{Meaning, meaning}
+use Rattle.sealing.specs.Meaning as line
+use Rattle.sealing.specs.Meaning.{Meaning}
 use Rattle.sealing.specs.declared.fault.SealingFault.{SealingFault}
 use Rattle.sealing.specs.declared.plain_open.Opened.{Opened}
-use Rattle.ends.specs.Sending.{Parts}
-use Rattle.ends.specs.Window.{Marks, window_of, judging, Accepts}
+use Rattle.ends.specs.Sending.{Parts, parts}
+use Rattle.ends.specs.Window.{window_of, judging, Accepts}
 use Rattle.ends.specs.declared.fault.ReceiverFault.{ReceiverFault}
 use Rattle.ends.specs.declared.fault.ReceiverFault.TheVariants.{Sealing, Window}
 use Rattle.ends.specs.declared.fault.WindowFault.{WindowFault}
 use Rattle.ends.specs.declared.receiver.Receiver.{Receiver}
+use Rattle.ends.specs.declared.window.Marks.{Marks}
 
 abbrev pub parts_of : {C J : Type 0} → Receiver C J → Parts C J
-parts_of r = record { cipher = r.cipher; hash = r.hash; line = r.line.bytes }
+parts_of r = parts r.line
 
 abbrev pub marks_of : {C J : Type 0} → Receiver C J → Marks
 marks_of r = window_of r.window
 
--- what its parts and its line mean
+-- what its line means
 abbrev pub meaning_of : {C J : Type 0} → Cipher C → Hash J → Receiver C J → Meaning
-meaning_of c j r = meaning c j r.cipher r.hash r.line.bytes
+meaning_of c j r = line.meaning_of c j r.line
 
 -- first the sizes and the number, then the window, then the tag
 abbrev pub opened : Result Opened SealingFault → Result Opened ReceiverFault

@@ -6,12 +6,14 @@ use Rattle.sealing.specs.Meaning.{Meaning}
 use Rattle.sealing.specs.Sealing.{record_of}
 use Rattle.sealing.specs.declared.plain_open.Opened.{Opened}
 use Rattle.ends.specs.Receiving.{receiving, Marking}
-use Rattle.ends.specs.Sending.{Counting, started, drawing, after_draw, giving_up, sealing_with, after_spending}
-use Rattle.ends.specs.Window.{Marks, fresh}
+use Rattle.ends.specs.Sending.{started, drawing, after_draw, giving_up, sealing_with, after_spending}
+use Rattle.ends.specs.Window.{fresh}
+use Rattle.ends.specs.declared.counter.Counts.{Counts}
 use Rattle.ends.specs.declared.fault.ReceiverFault.{ReceiverFault}
 use Rattle.ends.specs.declared.fault.SenderFault.{SenderFault}
 use Rattle.ends.specs.declared.ticket.Returned.{Returned}
 use Rattle.ends.specs.declared.ticket.Ticket.{Ticket}
+use Rattle.ends.specs.declared.window.Marks.{Marks}
 
 -- a record brought to a receiver: its header, the lengths of the areas lent, and the number and the text handed out, if any
 pub record Receipt : Type 0 where
@@ -34,13 +36,13 @@ pub data Event : Type 0 where
   second_receives : (header r : List ℕ) (work : ℕ) (text text' : List ℕ) → Result Opened ReceiverFault → Event
 
 -- what the contracts of the calls state
-abbrev pub Draws : Counting → Result Ticket SenderFault → Counting → Type 0
+abbrev pub Draws : Counts → Result Ticket SenderFault → Counts → Type 0
 Draws c a c' = (a ≡ drawing c) × (c' ≡ after_draw a c)
 
-abbrev pub GivesUp : Counting → Ticket → Result ℕ Returned → Counting → Type 0
+abbrev pub GivesUp : Counts → Ticket → Result ℕ Returned → Counts → Type 0
 GivesUp c t a c' = (a ≡ giving_up c t) × (c' ≡ after_spending a c)
 
-pub record Seals (m : Meaning) (c : Counting) (t : Ticket) (header text area area' : List ℕ) (a : Result ℕ Returned) (c' : Counting) : Type 0 where
+pub record Seals (m : Meaning) (c : Counts) (t : Ticket) (header text area area' : List ℕ) (a : Result ℕ Returned) (c' : Counts) : Type 0 where
   pub header_bytes : Bytes header
   pub text_bytes : Bytes text
   pub answer : a ≡ sealing_with m c t (length header) (length text) (length area)
@@ -56,7 +58,7 @@ pub record Receives (m : Meaning) (w : Marks) (header r : List ℕ) (work : ℕ)
 
 -- where a sender and two receivers stand
 pub record World : Type 0 where
-  pub sender : Counting
+  pub sender : Counts
   pub first : Marks
   pub second : Marks
 

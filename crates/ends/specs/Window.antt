@@ -2,15 +2,11 @@
 use Rattle.std.specs.Prelude.{◌≡◌, ℕ, ◌+◌, ◌-◌, ◌/◌, ◌%◌, ◌^◌, ◌<◌, max, Bool, true, false, cond, ◌||◌, Some, None, Ok, Err, Option, Result, ◌==◌, nat_le, nat_lt}
 use Rattle.ends.specs.declared.fault.WindowFault.{WindowFault}
 use Rattle.ends.specs.declared.fault.WindowFault.TheVariants.{TooOld, AcceptedEarlier}
+use Rattle.ends.specs.declared.window.Marks.{Marks}
 use Rattle.ends.specs.declared.window.Window.{Window}
 
--- the highest number accepted, and the marks: bit i says that the number i below the highest was accepted
-pub record Marks : Type 0 where
-  pub highest : ℕ
-  pub marks : ℕ
-
 abbrev pub window_of : Window → Marks
-window_of w = record { highest = w.highest; marks = w.marks }
+window_of w = w.accepted
 
 abbrev pub fresh : Marks
 fresh = record { highest = 0; marks = 0 }

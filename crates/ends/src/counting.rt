@@ -1,60 +1,53 @@
 // What a counter does.
 ghost use Rattle.std.specs.Prelude.{◌≡◌, true, length};
 ghost use Rattle.sealing.specs.Calls.{placed};
-ghost use Rattle.sealing.specs.Meaning.{meaning};
+ghost use Rattle.sealing.specs.Meaning.{meaning_of};
 ghost use Rattle.sealing.specs.Sealing.{record_of};
 ghost use Rattle.ends.specs.Sending.{counts_of, counted, starting, resumed, resuming, possible, ticket_of, ticketed, drawing, after_draw, handing, giving_up, sealing_with, after_spending};
 
-use crate::counter::Counter;
+use crate::counter::{Counter, Counts};
 use crate::fault::SenderFault;
 use ciphers::WideCipher;
 use hashes::KeyedHash;
-use sealing::{LAST, LineName, seal};
+use sealing::{LAST, Line};
 
 impl Counter {
     // A counter that has drawn nothing yet; its first number is `first`.
     pub fn new(first: u64) -> Result<Counter, SenderFault>
         ensures { counted result ≡ starting first }
     {
-        if first < 1 {
+        if !(1..=LAST).contains(&first) {
             return Err(SenderFault::FirstNumber(first));
         }
-        if first > LAST {
-            return Err(SenderFault::FirstNumber(first));
-        }
-        Ok(Counter {
+        let counts = Counts {
             next: first,
             outstanding: None,
-        })
+        };
+        Ok(Counter { counts })
     }
 
-    // The counter that stood at these numbers, if one can stand so.
-    pub fn resume(next: u64, outstanding: Option<u64>) -> Option<Counter>
-        ensures { resumed result ≡ resuming (record { next = next; outstanding = outstanding }) }
+    // The counter that stood so, if one can stand so.
+    pub fn resume(counts: Counts) -> Option<Counter>
+        ensures { resumed result ≡ resuming counts }
     {
-        if next < 1 {
+        let Counts { next, outstanding } = counts;
+        if !(1..=LAST + 1).contains(&next) {
             return None;
         }
-        if next > LAST + 1 {
-            return None;
+        match outstanding {
+            Some(0) => None,
+            Some(number) if number != next - 1 => None,
+            _ => Some(Counter { counts }),
         }
-        if let Some(number) = outstanding {
-            if number < 1 {
-                return None;
-            }
-            if number != next - 1 {
-                return None;
-            }
-        }
-        Some(Counter { next, outstanding })
     }
 
-    // The next number and the number outstanding, from which `resume` makes the counter again.
-    pub fn kept(&self) -> (u64, Option<u64>)
-        ensures answer { result ≡ ((counts_of self.now).next, (counts_of self.now).outstanding) }
+    // What `resume` makes the counter of again.
+    pub fn kept(&self) -> Counts
+        ensures answer { result ≡ counts_of self.now }
         ensures lasting { possible (counts_of self.now) ≡ true }
     {
-        (self.next, self.outstanding)
+        let Counter { counts } = self;
+        *counts
     }
 
     // The next number, which is then outstanding. One is outstanding at a time.
@@ -62,16 +55,18 @@ impl Counter {
         ensures answer { ticketed result ≡ drawing (counts_of self.old) }
         ensures after { counts_of self.new ≡ after_draw (ticketed result) (counts_of self.old) }
     {
-        if let Some(number) = self.outstanding {
+        let Counts { next, outstanding } = self.counts;
+        if let Some(number) = outstanding {
             return Err(SenderFault::TicketOut(number));
         }
-        if self.next > LAST {
+        if next > LAST {
             return Err(SenderFault::UsedUp);
         }
-        let drawn = self.next;
-        self.next = drawn + 1;
-        self.outstanding = Some(drawn);
-        Ok(drawn)
+        self.counts = Counts {
+            next: next + 1,
+            outstanding: Some(next),
+        };
+        Ok(next)
     }
 
     // Takes the number outstanding, which is answered and never sealed.
@@ -79,34 +74,32 @@ impl Counter {
         ensures answer { handing number result ≡ giving_up (counts_of self.old) (ticket_of number) }
         ensures after { counts_of self.new ≡ after_spending (handing number result) (counts_of self.old) }
     {
-        if self.outstanding != Some(number) {
+        if self.counts.outstanding != Some(number) {
             // The number outstanding, if any, stays so.
             return Err(SenderFault::WrongTicket(number));
         }
-        self.outstanding = None;
+        self.counts.outstanding = None;
         Ok(number)
     }
 
     // Seals a text under the number outstanding: the record goes to the front of the area, and its length is answered.
     pub fn seal<C: WideCipher, J: KeyedHash>(
         &mut self,
-        cipher: &C,
-        hash: &J,
-        line: &LineName,
+        line: &Line<C, J>,
         number: u64,
         header: &[u8],
         text: &[u8],
         area: &mut [u8],
     ) -> Result<usize, SenderFault>
-        ensures answer { handing number result ≡ sealing_with (meaning C.WideCipher J.KeyedHash cipher.now hash.now line.now.bytes) (counts_of self.old) (ticket_of number) (length header.now) (length text.now) (length area.old) }
+        ensures answer { handing number result ≡ sealing_with (meaning_of C.WideCipher J.KeyedHash line.now) (counts_of self.old) (ticket_of number) (length header.now) (length text.now) (length area.old) }
         ensures after { counts_of self.new ≡ after_spending (handing number result) (counts_of self.old) }
-        ensures area { area.new ≡ placed result area.old (record_of (meaning C.WideCipher J.KeyedHash cipher.now hash.now line.now.bytes) header.now number text.now) }
+        ensures area { area.new ≡ placed result area.old (record_of (meaning_of C.WideCipher J.KeyedHash line.now) header.now number text.now) }
     {
-        if self.outstanding != Some(number) {
+        if self.counts.outstanding != Some(number) {
             return Err(SenderFault::WrongTicket(number));
         }
-        let length = seal(cipher, hash, line, number, header, text, area)?;
-        self.outstanding = None;
+        let length = line.seal(number, header, text, area)?;
+        self.counts.outstanding = None;
         Ok(length)
     }
 }

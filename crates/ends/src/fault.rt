@@ -4,8 +4,8 @@ ghost use Rattle.ends.specs.Refusals.{told, told_receiver};
 ghost use Rattle.ends.specs.declared.fault.ReceiverFault.TheVariants.{Sealing as Opening, Window};
 ghost use Rattle.ends.specs.declared.fault.SenderFault.TheVariants.{Sealing};
 
-use refusals::{Place, Reason, Refusal};
-use sealing::SealingFault;
+use refusals::{Place, Refusal};
+use sealing::{LAST, SealingFault};
 
 // Why a window does not take a number.
 #[derive(Clone, Copy, PartialEq, Eq, Debug)]
@@ -45,19 +45,12 @@ impl From<ReceiverFault> for Refusal {
     ghost from_gives = { λ f r. r ≡ told_receiver f };
 
     fn from(fault: ReceiverFault) -> Refusal {
-        let (number, detail) = match fault {
-            ReceiverFault::Sealing(fault) => return fault.into(),
-            ReceiverFault::Window(WindowFault::TooOld(highest)) => (16, highest),
-            ReceiverFault::Window(WindowFault::AcceptedEarlier(number)) => (17, number),
-        };
-        let reason = Reason {
-            number,
-            place: Place::Receiver,
-            detail,
-        };
-        Refusal {
-            reason,
-            carried: None,
+        match fault {
+            ReceiverFault::Sealing(fault) => fault.into(),
+            ReceiverFault::Window(fault) => match fault {
+                WindowFault::TooOld(highest) => Refusal::alone(16, Place::Receiver, highest),
+                WindowFault::AcceptedEarlier(number) => Refusal::alone(17, Place::Receiver, number),
+            },
         }
     }
 }
@@ -89,21 +82,12 @@ impl From<SenderFault> for Refusal {
     ghost from_gives = { λ f r. r ≡ told f };
 
     fn from(fault: SenderFault) -> Refusal {
-        let (number, detail) = match fault {
-            SenderFault::Sealing(fault) => return fault.into(),
-            SenderFault::FirstNumber(first) => (2, first),
-            SenderFault::TicketOut(number) => (13, number),
-            SenderFault::UsedUp => (14, 1 << 40),
-            SenderFault::WrongTicket(number) => (15, number),
-        };
-        let reason = Reason {
-            number,
-            place: Place::Sender,
-            detail,
-        };
-        Refusal {
-            reason,
-            carried: None,
+        match fault {
+            SenderFault::Sealing(fault) => fault.into(),
+            SenderFault::FirstNumber(first) => Refusal::alone(2, Place::Sender, first),
+            SenderFault::TicketOut(number) => Refusal::alone(13, Place::Sender, number),
+            SenderFault::UsedUp => Refusal::alone(14, Place::Sender, LAST),
+            SenderFault::WrongTicket(number) => Refusal::alone(15, Place::Sender, number),
         }
     }
 }

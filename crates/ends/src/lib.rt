@@ -13,10 +13,10 @@ mod ticket;
 mod window;
 mod windowing;
 
-pub use counter::Counter;
+pub use counter::{Counter, Counts};
 pub use fault::{ReceiverFault, SenderFault, WindowFault};
 pub use promising::promise;
 pub use receiver::Receiver;
 pub use sender::Sender;
 pub use ticket::{Returned, Ticket};
-pub use window::Window;
+pub use window::{Marks, Window};

@@ -1,18 +1,18 @@
 // The promise over every list of calls.
 ghost use Rattle.ends.specs.Promise.{Promise as Promised};
 ghost use Rattle.ends.specs.Sending.{meaning_of};
-ghost use Rattle.sealing.specs.Meaning.{meaning};
+ghost use Rattle.sealing.specs.Meaning.{meaning_of as line_meaning};
 
 use crate::sender::Sender;
 use ciphers::WideCipher;
 use hashes::KeyedHash;
-use sealing::{LineName, lawful};
+use sealing::Line;
 
 // Does nothing: its contract is the promise, for a line of this meaning.
-pub fn promise<C: WideCipher, J: KeyedHash>(cipher: &C, hash: &J, line: &LineName)
-    ensures { Promised (meaning C.WideCipher J.KeyedHash cipher.now hash.now line.now.bytes) }
+pub fn promise<C: WideCipher, J: KeyedHash>(line: &Line<C, J>)
+    ensures { Promised (line_meaning C.WideCipher J.KeyedHash line.now) }
 {
-    lawful(cipher, hash, line);
+    line.lawful();
 }
 
 impl<C: WideCipher, J: KeyedHash> Sender<C, J> {
@@ -20,6 +20,6 @@ impl<C: WideCipher, J: KeyedHash> Sender<C, J> {
     pub fn promise(&self)
         ensures { Promised (meaning_of C.WideCipher J.KeyedHash self.now) }
     {
-        promise(&self.cipher, &self.hash, &self.line);
+        promise(&self.line);
     }
 }

@@ -1,11 +1,9 @@
 // The receiving end of a line.
 use crate::window::Window;
-use sealing::LineName;
+use sealing::Line;
 
 #[derive(Drop)]
 pub struct Receiver<C, J> {
-    pub(crate) cipher: C,
-    pub(crate) hash: J,
-    pub(crate) line: LineName,
+    pub(crate) line: Line<C, J>,
     pub(crate) window: Window,
 }

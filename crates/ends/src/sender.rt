@@ -1,11 +1,9 @@
 // The sending end of a line.
 use crate::counter::Counter;
-use sealing::LineName;
+use sealing::Line;
 
 #[derive(Drop)]
 pub struct Sender<C, J> {
-    pub(crate) cipher: C,
-    pub(crate) hash: J,
-    pub(crate) line: LineName,
+    pub(crate) line: Line<C, J>,
     pub(crate) counter: Counter,
 }

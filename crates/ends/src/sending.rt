@@ -2,7 +2,7 @@
 ghost use Rattle.std.specs.Prelude.{◌≡◌, length};
 ghost use Rattle.sealing.specs.Calls.{placed};
 ghost use Rattle.sealing.specs.Sealing.{record_of};
-ghost use Rattle.ends.specs.Sending.{parts_of, counting_of, meaning_of, seen, making, drawing, after_draw, giving_up, sealing_with, after_spending};
+ghost use Rattle.ends.specs.Sending.{parts_of, counting_of, meaning_of, seen, making, drawing, after_draw, giving_up, handing, sealing_with, after_spending};
 
 use crate::counter::Counter;
 use crate::fault::SenderFault;
@@ -10,20 +10,33 @@ use crate::sender::Sender;
 use crate::ticket::{Returned, Ticket};
 use ciphers::WideCipher;
 use hashes::KeyedHash;
-use sealing::LineName;
+use sealing::Line;
+
+impl Ticket {
+    // Ends a ticket whose number was taken, and hands back one that was refused.
+    fn spend<T>(self, taken: Result<T, SenderFault>) -> Result<T, Returned>
+        ensures { result ≡ handing self.number taken }
+    {
+        match taken {
+            Ok(answer) => {
+                let Ticket { number: _ } = self;
+                Ok(answer)
+            }
+            Err(fault) => Err(Returned {
+                ticket: self,
+                fault,
+            }),
+        }
+    }
+}
 
 impl<C: Drop, J: Drop> Sender<C, J> {
     // A sender whose first ticket bears the number `first`.
-    pub fn new(cipher: C, hash: J, line: LineName, first: u64) -> Result<Sender<C, J>, SenderFault>
-        ensures { seen result ≡ making cipher hash line.bytes first }
+    pub fn new(line: Line<C, J>, first: u64) -> Result<Sender<C, J>, SenderFault>
+        ensures { seen result ≡ making line.cipher line.hash line.name.bytes first }
     {
         let counter = Counter::new(first)?;
-        Ok(Sender {
-            cipher,
-            hash,
-            line,
-            counter,
-        })
+        Ok(Sender { line, counter })
     }
 }
 
@@ -44,13 +57,8 @@ impl<C, J> Sender<C, J> {
         ensures after { counting_of self.new ≡ after_spending result (counting_of self.old) }
         ensures parts { parts_of self.new ≡ parts_of self.old }
     {
-        match self.counter.give_up(ticket.number) {
-            Ok(number) => {
-                let Ticket { number: _ } = ticket;
-                Ok(number)
-            }
-            Err(fault) => Err(Returned { ticket, fault }),
-        }
+        let taken = self.counter.give_up(ticket.number);
+        ticket.spend(taken)
     }
 }
 
@@ -68,20 +76,9 @@ impl<C: WideCipher, J: KeyedHash> Sender<C, J> {
         ensures parts { parts_of self.new ≡ parts_of self.old }
         ensures area { area.new ≡ placed result area.old (record_of (meaning_of C.WideCipher J.KeyedHash self.old) header.now ticket.number text.now) }
     {
-        match self.counter.seal(
-            &self.cipher,
-            &self.hash,
-            &self.line,
-            ticket.number,
-            header,
-            text,
-            area,
-        ) {
-            Ok(length) => {
-                let Ticket { number: _ } = ticket;
-                Ok(length)
-            }
-            Err(fault) => Err(Returned { ticket, fault }),
-        }
+        let sealed = self
+            .counter
+            .seal(&self.line, ticket.number, header, text, area);
+        ticket.spend(sealed)
     }
 }

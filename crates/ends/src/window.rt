@@ -2,11 +2,16 @@
 ghost use Rattle.std.specs.Prelude.{◌≡◌, ℕ, ◌/◌, ◌%◌, ◌^◌, ◌≤◌};
 
 // The highest number accepted, 0 at first, and which of the 64 numbers that end there were: bit i of the marks says that `highest - i` was.
+#[derive(Clone, Copy, PartialEq, Eq, Debug)]
+pub struct Marks {
+    pub highest: u64,
+    pub marks: u64,
+}
+
 // The highest is 0 or marked, and nothing below 1 is.
 #[derive(Clone, Copy)]
 pub struct Window {
-    pub(crate) highest: u64,
-    pub(crate) marks: u64,
-    ghost topped: { (1 ≤ highest → marks % 2 ≡ 1) },
-    ghost above: { ((n : ℕ) → highest ≤ n → marks / 2 ^ n % 2 ≡ 0) },
+    pub(crate) accepted: Marks,
+    ghost topped: { (1 ≤ accepted.highest → accepted.marks % 2 ≡ 1) },
+    ghost above: { ((n : ℕ) → accepted.highest ≤ n → accepted.marks / 2 ^ n % 2 ≡ 0) },
 }

@@ -3,59 +3,59 @@ ghost use Rattle.std.specs.Prelude.{◌≡◌, ◌+◌, ◌<◌, ◌≤◌, true
 ghost use Rattle.ends.specs.Window.{window_of, fresh, possible, resumed, resuming, judging, Accepts, Leaves};
 
 use crate::fault::WindowFault;
-use crate::window::Window;
+use crate::window::{Marks, Window};
 
 impl Window {
     // Nothing was accepted yet.
     pub fn new() -> Window
         ensures { window_of result ≡ fresh }
     {
-        Window {
+        let accepted = Marks {
             highest: 0,
             marks: 0,
-        }
+        };
+        Window { accepted }
     }
 
-    // The window that stood at these numbers, if one can stand so.
-    pub fn resume(highest: u64, marks: u64) -> Option<Window>
-        ensures { resumed result ≡ resuming (record { highest = highest; marks = marks }) }
+    // The window that stood so, if one can stand so.
+    pub fn resume(accepted: Marks) -> Option<Window>
+        ensures { resumed result ≡ resuming accepted }
     {
-        if highest >= 1 {
-            if marks % 2 == 0 {
-                return None;
-            }
+        let Marks { highest, marks } = accepted;
+        if highest >= 1 && marks % 2 == 0 {
+            return None;
         }
-        if highest < 64 {
-            if marks >> highest != 0 {
-                return None;
-            }
+        if highest < 64 && marks >> highest != 0 {
+            return None;
         }
-        Some(Window { highest, marks })
+        Some(Window { accepted })
     }
 
-    // The highest number and the marks, from which `resume` makes the window again.
-    pub fn kept(self) -> (u64, u64)
-        ensures answer { result ≡ ((window_of self).highest, (window_of self).marks) }
+    // What `resume` makes the window of again.
+    pub fn kept(self) -> Marks
+        ensures answer { result ≡ window_of self }
         ensures lasting { possible (window_of self) ≡ true }
     {
-        (self.highest, self.marks)
+        let Window { accepted } = self;
+        accepted
     }
 
     // Whether a number may be accepted.
     pub fn judge(&self, number: u64) -> Result<(), WindowFault>
         ensures { result ≡ judging (window_of self.now) number }
     {
+        let Marks { highest, marks } = self.accepted;
         if number < 1 {
             return Err(WindowFault::AcceptedEarlier(number));
         }
-        if number > self.highest {
+        if number > highest {
             return Ok(());
         }
-        let behind = self.highest - number;
+        let behind = highest - number;
         if behind >= 64 {
-            return Err(WindowFault::TooOld(self.highest));
+            return Err(WindowFault::TooOld(highest));
         }
-        if (self.marks >> behind) & 1 == 1 {
+        if (marks >> behind) & 1 == 1 {
             return Err(WindowFault::AcceptedEarlier(number));
         }
         Ok(())
@@ -64,16 +64,19 @@ impl Window {
     // Marks a number that may be accepted.
     fn mark(&mut self, number: u64)
         requires first { 1 ≤ number }
-        requires near { self.old.highest < number + 64 }
+        requires near { self.old.accepted.highest < number + 64 }
         ensures { Accepts (window_of self.old) number (window_of self.new) }
     {
-        if number > self.highest {
-            let ahead = number - self.highest;
-            let shifted = if ahead < 64 { self.marks << ahead } else { 0 };
-            self.marks = shifted | 1;
-            self.highest = number;
+        let Marks { highest, marks } = self.accepted;
+        if number > highest {
+            let ahead = number - highest;
+            let shifted = if ahead < 64 { marks << ahead } else { 0 };
+            self.accepted = Marks {
+                highest: number,
+                marks: shifted | 1,
+            };
         } else {
-            self.marks |= 1 << (self.highest - number);
+            self.accepted.marks = marks | 1 << (highest - number);
         }
     }
 

@@ -5,13 +5,18 @@
 mod tests {
     use ends::{Returned, Sender, SenderFault};
     use refusals::{Place, Reason, Refusal};
-    use sealing::LineName;
+    use sealing::{Line, LineName};
     use std::test::Fail;
 
     const LAST: u64 = 1 << 40;
 
     fn sender(first: u64) -> Result<Sender<(), ()>, SenderFault> {
-        Sender::new((), (), LineName::new(&[0; 8]), first)
+        let line = Line {
+            cipher: (),
+            hash: (),
+            name: LineName::new(&[0; 8]),
+        };
+        Sender::new(line, first)
     }
 
     // Draws a ticket and gives it up.

@@ -35,15 +35,14 @@ impl From<SealingFault> for Refusal {
     ghost from_gives = { λ f r. r ≡ told f };
 
     fn from(fault: SealingFault) -> Refusal {
-        let (number, detail) = match fault {
-            SealingFault::RecordShort(length) => (7, length as u64),
-            SealingFault::HeaderLong(length) => (8, length as u64),
-            SealingFault::Cipher(fault) => return fault.into(),
-            SealingFault::WorkShort(needed) => (9, needed as u64),
-            SealingFault::AreaShort(needed) => (10, needed as u64),
-            SealingFault::NumberOutside(number) => (11, number),
-            SealingFault::NoSealing => (12, 0),
-        };
-        Refusal::alone(number, Place::Sealing, detail)
+        match fault {
+            SealingFault::RecordShort(length) => Refusal::alone(7, Place::Sealing, length as u64),
+            SealingFault::HeaderLong(length) => Refusal::alone(8, Place::Sealing, length as u64),
+            SealingFault::Cipher(fault) => fault.into(),
+            SealingFault::WorkShort(needed) => Refusal::alone(9, Place::Sealing, needed as u64),
+            SealingFault::AreaShort(needed) => Refusal::alone(10, Place::Sealing, needed as u64),
+            SealingFault::NumberOutside(number) => Refusal::alone(11, Place::Sealing, number),
+            SealingFault::NoSealing => Refusal::alone(12, Place::Sealing, 0),
+        }
     }
 }

@@ -5,5 +5,5 @@ use Rattle.ends.proofs.window.Window.kept.Goals as goal
 pub returns : goal.returns
 returns c =
     let s = c.args.self in
-    let fits : s.marks < 2 ^ 64 = omega arith in
-    record { answer = refl; lasting = possible-of s.highest s.marks fits s.topped s.above }
+    let fits : s.accepted.marks < 2 ^ 64 = omega arith in
+    record { answer = refl; lasting = possible-of s.accepted.highest s.accepted.marks fits s.topped s.above }

@@ -3,7 +3,7 @@ use Rattle.sealing.proofs.Sealings.{opened-number}
 use Rattle.ends.proofs.Judging.{judged-once}
 use Rattle.ends.specs.Receiving.{meaning_of}
 use Rattle.ends.specs.Window.{window_of}
-use Rattle.ends.proofs.receiver.Receiver.receive_in.Goals as goal
+use Rattle.ends.proofs.receiver.Receiver.receive.Goals as goal
 
 pub unreachable-requires : goal.unreachable-requires
 unreachable-requires g c =
