@@ -3,24 +3,29 @@ ghost use Rattle.std.specs.Prelude.{◌≡◌, length};
 ghost use Rattle.sealing.specs.Calls.{sealing as sealing_of, opening, placed, text_of};
 ghost use Rattle.sealing.specs.Sealing.{record_of};
 ghost use Rattle.boards.specs.Lines.{line_of, line_brought, meant_by};
-ghost use Rattle.boards.specs.Plain.{sealed, opened, sealed_as, opened_as, written, Seals, Opens};
+ghost use Rattle.boards.specs.Plain.{sealed, opened, written, Seals, Opens};
 
 use crate::answer::{Answer, Done};
 use crate::brought::Brought;
 use crate::fault::{Fault, answer};
 use crate::line::AnyLine;
-use sealing::Work;
+use sealing::{Opened, SealingFault, Work};
 
 impl AnyLine {
-    fn seal(&self, number: u64, header: &[u8], text: &[u8], area: &mut [u8]) -> Result<Done, Fault>
-        ensures answer { result ≡ sealed_as number (sealing_of (meant_by self.now) number (length header.now) (length text.now) (length area.old)) }
+    fn seal(
+        &self,
+        number: u64,
+        header: &[u8],
+        text: &[u8],
+        area: &mut [u8],
+    ) -> Result<usize, SealingFault>
+        ensures answer { result ≡ sealing_of (meant_by self.now) number (length header.now) (length text.now) (length area.old) }
         ensures after { area.new ≡ placed result area.old (record_of (meant_by self.now) header.now number text.now) }
     {
-        let length = match self {
-            AnyLine::A(line) => line.seal(number, header, text, area)?,
-            AnyLine::B(line) => line.seal(number, header, text, area)?,
-        };
-        Ok(Done { number, length })
+        match self {
+            AnyLine::A(line) => line.seal(number, header, text, area),
+            AnyLine::B(line) => line.seal(number, header, text, area),
+        }
     }
 
     fn open(
@@ -29,15 +34,14 @@ impl AnyLine {
         record: &[u8],
         work: &mut [u8],
         text: &mut [u8],
-    ) -> Result<Done, Fault>
-        ensures answer { result ≡ opened_as (opening (meant_by self.now) header.now «record».now (length work.old) (length text.old)) }
+    ) -> Result<Opened, SealingFault>
+        ensures answer { result ≡ opening (meant_by self.now) header.now «record».now (length work.old) (length text.old) }
         ensures after { text.new ≡ placed result text.old (text_of (meant_by self.now) «record».now) }
     {
-        let opened = match self {
-            AnyLine::A(line) => line.open(header, record, work, text)?,
-            AnyLine::B(line) => line.open(header, record, work, text)?,
-        };
-        Ok(opened.into())
+        match self {
+            AnyLine::A(line) => line.open(header, record, work, text),
+            AnyLine::B(line) => line.open(header, record, work, text),
+        }
     }
 }
 
@@ -46,7 +50,8 @@ impl Brought<'_> {
         ensures answer { result ≡ sealed (line_brought self.now) number header.now text.now (length area.old) }
         ensures after { area.new ≡ written (line_brought self.now) result (λ m. record_of m header.now number text.now) area.old }
     {
-        self.line()?.seal(number, header, text, area)
+        let length = self.line()?.seal(number, header, text, area)?;
+        Ok(Done { number, length })
     }
 
     fn open(
@@ -59,7 +64,8 @@ impl Brought<'_> {
         ensures answer { result ≡ opened (line_brought self.now) header.now «record».now (length work.old) (length text.old) }
         ensures after { text.new ≡ written (line_brought self.now) result (λ m. text_of m «record».now) text.old }
     {
-        self.line()?.open(header, record, work, text)
+        let opened = self.line()?.open(header, record, work, text)?;
+        Ok(opened.into())
     }
 }
 

@@ -1,0 +1,26 @@
+use Rattle.std.proofs.Common.{length, sym, ap, ◌∙◌}
+use Rattle.sealing.specs.Calls.{placed}
+use Rattle.sealing.specs.Sealing.{record_of}
+use Rattle.boards.specs.Lines.{meant_by}
+use Rattle.boards.specs.Sending.{sealed_by}
+use Rattle.boards.proofs.line.AnyLine.seal_with.Goals as goal
+
+pub returns-in-A : goal.returns-in-A
+returns-in-A c =
+    let e = sym (ap meant_by c.in-A.is) in
+    record {
+      answer = c.seal.ensures.answer ∙ ap (λ m. sealed_by m c.args.state.now c.args.ticket (length c.args.header.now) (length c.args.text.now) (length c.args.area.now)) e;
+      after = c.seal.ensures.after;
+      lasting = c.seal.ensures.lasting;
+      area = c.seal.ensures.area ∙ ap (λ m. placed c.seal.result c.args.area.now (record_of m c.args.header.now c.args.ticket c.args.text.now)) e;
+    }
+
+pub returns-in-B : goal.returns-in-B
+returns-in-B c =
+    let e = sym (ap meant_by c.in-B.is) in
+    record {
+      answer = c.seal-in-B.ensures.answer ∙ ap (λ m. sealed_by m c.args.state.now c.args.ticket (length c.args.header.now) (length c.args.text.now) (length c.args.area.now)) e;
+      after = c.seal-in-B.ensures.after;
+      lasting = c.seal-in-B.ensures.lasting;
+      area = c.seal-in-B.ensures.area ∙ ap (λ m. placed c.seal-in-B.result c.args.area.now (record_of m c.args.header.now c.args.ticket c.args.text.now)) e;
+    }
