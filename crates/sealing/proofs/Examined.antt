@@ -65,6 +65,12 @@ examined lowest highest carried header r work text n e =
       last = omega arith;
     }
 
+-- a record that was examined has room for a number and a tag
+pub tag_fits : (lowest highest : ℕ) (carried : Option PastReach) (header : ℕ) (r : List ℕ) (work text n : ℕ) → 16 ≤ lowest → Ok n ≡ examining lowest highest carried header r work text → 24 ≤ length r
+tag_fits lowest highest carried header r work text n least e =
+    let x = examined lowest highest carried header r work text n e in
+    omega (arith, x.low, x.fronted)
+
 -- a record that is like this is examined so
 pub examines : (lowest highest : ℕ) (carried : Option PastReach) (header : ℕ) (r : List ℕ) (work text n : ℕ) → Examined lowest highest header r work text n → examining lowest highest carried header r work text ≡ Ok n
 examines lowest highest carried header r work text n x =

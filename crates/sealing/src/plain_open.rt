@@ -77,29 +77,8 @@ impl<C: WideCipher, J: KeyedHash> Line<C, J> {
         equal(&body[0..16], &tag)
     }
 
-    // The work of `open`, which leaves what it likes in the work area.
-    fn open_in(
-        &self,
-        header: &[u8],
-        record: &[u8],
-        work: &mut [u8],
-        text: &mut [u8],
-    ) -> Result<Opened, SealingFault>
-        ensures answer { result ≡ opening (meaning_of C.WideCipher J.KeyedHash self.now) header.now «record».now (length work.old) (length text.old) }
-        ensures after { text.new ≡ placed result text.old (text_of (meaning_of C.WideCipher J.KeyedHash self.now) «record».now) }
-    {
-        let number = self.examine(header, record, work.len(), text.len())?;
-        let size = record.len() - 8;
-        let body = &mut work[0..size];
-        if !self.decipher(header, record, body) {
-            return Err(SealingFault::NoSealing);
-        }
-        let length = size - 16;
-        text[0..length].copy_from_slice(&body[16..size]);
-        Ok(Opened { number, length })
-    }
-
     // Opens a record: its text goes to the front of `text`, and the work area is all zero afterwards, whatever the answer.
+    #[tactic(auto, using(crate::proofs::Sealings::exactly, crate::proofs::Examined::tag_fits))]
     pub fn open(
         &self,
         header: &[u8],
@@ -114,6 +93,14 @@ impl<C: WideCipher, J: KeyedHash> Line<C, J> {
     {
         self.lawful();
         let guard = Work(work);
-        self.open_in(header, record, &mut *guard.0, text)
+        let number = self.examine(header, record, guard.0.len(), text.len())?;
+        let size = record.len() - 8;
+        let body = &mut guard.0[0..size];
+        if !self.decipher(header, record, body) {
+            return Err(SealingFault::NoSealing);
+        }
+        let length = size - 16;
+        text[0..length].copy_from_slice(&body[16..size]);
+        Ok(Opened { number, length })
     }
 }

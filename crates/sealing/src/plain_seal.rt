@@ -25,19 +25,6 @@ impl<C: WideCipher, J: KeyedHash> Line<C, J> {
         ensures sealed { (k : ℕ) → result ≡ Ok k → IsSealing (meaning_of C.WideCipher J.KeyedHash self.now) header.now (take k area.new) number text.now }
     {
         self.lawful();
-        self.judge_and_write(number, header, text, area)
-    }
-
-    fn judge_and_write(
-        &self,
-        number: u64,
-        header: &[u8],
-        text: &[u8],
-        area: &mut [u8],
-    ) -> Result<usize, SealingFault>
-        ensures answer { result ≡ sealing (meaning_of C.WideCipher J.KeyedHash self.now) number (length header.now) (length text.now) (length area.old) }
-        ensures after { area.new ≡ placed result area.old (record_of (meaning_of C.WideCipher J.KeyedHash self.now) header.now number text.now) }
-    {
         judge_header(header)?;
         self.cipher.admits(text.len().saturating_add(16))?;
         let needed = text.len() + 24;

@@ -1,14 +1,23 @@
-use Rattle.std.proofs.Common.{◌≡◌, length, ap, ◌∙◌, rules}
-use Rattle.octets.specs.Strings.{zeros}
+use Rattle.std.proofs.Common.{◌≡◌, ◌-◌, length, ap, ◌∙◌, arith, rules}
+use Rattle.sealing.proofs.Opening.{tagged_ok, copied-out}
 use Rattle.sealing.proofs.Sealings.{exactly}
 use Rattle.sealing.proofs.line.Line.open.Goals as goal
 
-pub returns : goal.returns
-returns g c =
-    let kept : length c.open_in.new.work ≡ length c.args.work.now = search rules in
-    record {
-      answer = c.open_in.ensures.answer;
-      after = c.open_in.ensures.after;
-      zeroed = c.drop-guard.ensures ∙ ap zeros kept;
-      exactly = exactly _ c.lawful.ensures c.args.header.now c.args.record.now (λ k. (c.type_inv.header k).fits) (λ k. (c.type_inv.record k).fits) (length c.args.work.now) c.args.text.now c.open_in.new.text c.open_in.result c.open_in.ensures.answer c.open_in.ensures.after;
-    }
+pub returns-in_err-number-clause-exactly : goal.returns-in_err-number-clause-exactly
+returns-in_err-number-clause-exactly g c =
+    exactly _ c.lawful.ensures c.args.header.now c.args.record.now (λ k. (c.type_inv.header k).fits) (λ k. (c.type_inv.record k).fits) (length c.args.work.now) c.args.text.now c.args.text.now c.from_residual.result (search rules) (search rules)
+
+pub returns-clause-answer : goal.returns-clause-answer
+returns-clause-answer g c =
+    let size : length c.args.record.now - 8 ≡ length c.decipher.new.body = omega arith in
+    tagged_ok _ c.args.record.now _ c.in_ok-number.number _ c.in_ok-number.ensures c.if-not-decipher.ensures.answer (omega arith)
+
+pub returns-clause-after : goal.returns-clause-after
+returns-clause-after g c =
+    let told = c.if-not-decipher.ensures in
+    let size : length c.args.record.now - 8 ≡ length c.decipher.new.body = omega arith in
+    copied-out _ c.decipher.new.body c.copy_from_slice.new.self c.args.text.now (length c.args.record.now - 8) told.after (size ∙ ap length told.after) c.copy_from_slice.ensures.after
+
+pub returns-clause-exactly : goal.returns-clause-exactly
+returns-clause-exactly g c =
+    exactly _ c.lawful.ensures c.args.header.now c.args.record.now (λ k. (c.type_inv.header k).fits) (λ k. (c.type_inv.record k).fits) (length c.args.work.now) c.args.text.now _ _ (returns-clause-answer g c) (returns-clause-after g c)
