@@ -12,7 +12,8 @@ use Rattle.sealing.specs.Piles.{decked}
 use Rattle.sealing.specs.Refusals as sealing
 use Rattle.sealing.specs.declared.fault.SealingFault.{SealingFault}
 use Rattle.ends.specs.Refusals.{told_receiver}
-use Rattle.ends.specs.Window.{Marks, accepted, judging}
+use Rattle.ends.specs.Window.{accepted, judging}
+use Rattle.ends.specs.declared.window.Marks.{Marks}
 use Rattle.ends.specs.declared.fault.ReceiverFault.TheVariants.{Window}
 use Rattle.ends.specs.declared.fault.WindowFault.{WindowFault}
 

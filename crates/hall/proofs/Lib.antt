@@ -1,5 +1,6 @@
 mod Areas
 mod Fitting
 mod Keys
+mod Making
 mod Replying
 mod Sessions

@@ -6,7 +6,7 @@ use Rattle.hashes.specs.declared.keyed.KeyedHash.{Ghosts as Hash}
 use Rattle.sealing.specs.Meaning.{Meaning}
 use Rattle.ends.specs.Runs.{Event, draws, gives_up, Run, Step}
 use Rattle.ends.specs.Sending.{drawing, giving_up}
-use Rattle.ends.specs.Window.{Marks}
+use Rattle.ends.specs.declared.window.Marks.{Marks}
 use Rattle.ends.specs.declared.ticket.Ticket.{Ticket}
 use Rattle.forms.specs.Columns.{Reads}
 use Rattle.forms.specs.Spelling.{Asked, Asks, draw, give_up, seal, receive}

@@ -5,8 +5,10 @@ use Rattle.refusals.specs.declared.KeyLength.{KeyLength}
 use Rattle.refusals.specs.declared.Refusal.{Refusal}
 use Rattle.hashes.specs.declared.cmac.Cmac.{Cmac}
 use Rattle.hashes.specs.declared.polyval.Polyval.{Polyval}
-use Rattle.ends.specs.Sending.{Parts, Counting, started, last}
-use Rattle.ends.specs.Window.{Marks, fresh}
+use Rattle.ends.specs.Sending.{Parts, started, last}
+use Rattle.ends.specs.Window.{fresh}
+use Rattle.ends.specs.declared.counter.Counts.{Counts}
+use Rattle.ends.specs.declared.window.Marks.{Marks}
 use Rattle.ends.specs.declared.fault.SenderFault.{SenderFault}
 use Rattle.ends.specs.declared.ticket.Ticket.{Ticket}
 use Rattle.forms.specs.Columns.{Reads}
@@ -32,7 +34,7 @@ pub record Made : Type 0 where
   pub pile : Pile
   pub sender : End
   pub receiver : End
-  pub counting : Counting
+  pub counting : Counts
   pub window : Marks
   pub held : Option Ticket
 
@@ -66,7 +68,7 @@ opening (Ok o) = replied (opened o.pile o)
 opening (Err c) = Err (Unread c)
 
 -- what came of it, as far as it is told
-abbrev pub standing : {C J : Type 0} → Parts C J → Result (Parts C J × Counting) SenderFault → Result (State C J) SenderFault
+abbrev pub standing : {C J : Type 0} → Parts C J → Result (Parts C J × Counts) SenderFault → Result (State C J) SenderFault
 standing p (Ok s) = Ok (record { sender = s.0; receiver = p; counting = s.1; window = fresh; held = None })
 standing p (Err f) = Err f
 

@@ -7,7 +7,8 @@ use Rattle.sealing.specs.Meaning.{Meaning}
 use Rattle.sealing.specs.Sealing.{record_of}
 use Rattle.ends.specs.Runs.{Event, draws, seals, gives_up, first_receives, World, Run}
 use Rattle.ends.specs.Sending.{drawing, giving_up}
-use Rattle.ends.specs.Window.{Marks, fresh}
+use Rattle.ends.specs.Window.{fresh}
+use Rattle.ends.specs.declared.window.Marks.{Marks}
 use Rattle.ends.specs.declared.ticket.Ticket.{Ticket}
 use Rattle.forms.specs.Columns.{Reads}
 use Rattle.forms.specs.Spelling.{Asked, Asks, draw, give_up, seal, receive}

@@ -9,8 +9,9 @@ use Rattle.sealing.specs.declared.plain_open.Opened.{Opened}
 use Rattle.ends.specs.Receiving as receiver
 use Rattle.ends.specs.Receiving.{receiving, Marking}
 use Rattle.ends.specs.Refusals.{told, told_receiver}
-use Rattle.ends.specs.Sending.{Parts, Counting, parts_of, counting_of, drawing, after_draw, giving_up, sealing_with, after_spending}
-use Rattle.ends.specs.Window.{Marks}
+use Rattle.ends.specs.Sending.{Parts, parts_of, counting_of, drawing, after_draw, giving_up, sealing_with, after_spending}
+use Rattle.ends.specs.declared.counter.Counts.{Counts}
+use Rattle.ends.specs.declared.window.Marks.{Marks}
 use Rattle.ends.specs.declared.fault.ReceiverFault.{ReceiverFault}
 use Rattle.ends.specs.declared.fault.SenderFault.{SenderFault}
 use Rattle.ends.specs.declared.ticket.Returned.{Returned}
@@ -25,7 +26,7 @@ use Rattle.hall.specs.declared.reply.Reply.TheVariants.{Ticket as Drew, GivenUp,
 pub record State (C J : Type 0) : Type 0 where
   pub sender : Parts C J
   pub receiver : Parts C J
-  pub counting : Counting
+  pub counting : Counts
   pub window : Marks
   pub held : Option Ticket
 
@@ -67,7 +68,7 @@ abbrev pub reply_held : (Ticket → Result ℕ Returned) → (Result ℕ Returne
 reply_held spending reply None = NoTicket
 reply_held spending reply (Some t) = reply (spending t)
 
-abbrev pub counting_held : (Ticket → Result ℕ Returned) → Counting → Option Ticket → Counting
+abbrev pub counting_held : (Ticket → Result ℕ Returned) → Counts → Option Ticket → Counts
 counting_held spending c None = c
 counting_held spending c (Some t) = after_spending (spending t) c
 
@@ -93,7 +94,7 @@ module _ {C J : Type 0} (c : Cipher C) (j : Hash J) (h : State C J) (work room :
   replying (seal header text) = reply_held (sending header text) sealed h.held
   replying (receive header r) = received (taking header r)
 
-  abbrev pub counting_after : Asked → Counting
+  abbrev pub counting_after : Asked → Counts
   counting_after draw = after_draw (drawing h.counting) h.counting
   counting_after give_up = counting_held (giving_up h.counting) h.counting h.held
   counting_after (seal header text) = counting_held (sending header text) h.counting h.held
@@ -144,7 +145,7 @@ Fits n (seal header text) = (length header ≤ n) × (length text ≤ n)
 Fits n (receive header r) = (length header ≤ n) × (length r ≤ n)
 
 -- at the end of the input a ticket still held is given up
-abbrev pub closing_with : Counting → Option Ticket → Option Reply
+abbrev pub closing_with : Counts → Option Ticket → Option Reply
 closing_with c None = None
 closing_with c (Some t) = Some (gave_up (giving_up c t))
 

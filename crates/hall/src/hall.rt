@@ -9,5 +9,5 @@ pub struct Hall<C, J> {
     pub(crate) sender: Sender<C, J>,
     pub(crate) receiver: Receiver<C, J>,
     pub(crate) held: Option<Ticket>,
-    ghost tied: { holds_out held sender.counter.outstanding ≡ true },
+    ghost tied: { holds_out held sender.counter.counts.outstanding ≡ true },
 }

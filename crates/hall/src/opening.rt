@@ -1,6 +1,6 @@
 // The first line: the ends are made.
 ghost use Rattle.std.specs.Prelude.{◌≡◌};
-ghost use Rattle.ends.specs.Sending.{making};
+ghost use Rattle.ends.specs.Sending.{making, parts as parts_of};
 ghost use Rattle.forms.specs.Said.{ends_of};
 ghost use Rattle.hall.specs.Keys.{keys_by, keys_in};
 ghost use Rattle.hall.specs.Opening.{opened, numbered, standing, stood, seen, seen_as, Opens};
@@ -12,24 +12,18 @@ use crate::parts::parts;
 use crate::reply::Reply;
 use ciphers::Ddd;
 use ends::{Receiver, Sender, SenderFault};
-use forms::{Opening, Pile, Unread, read_opening};
+use forms::{Opening, Pile, read_opening};
 use from_key::FromKey;
 use refusals::Refusal;
-use sealing::LineName;
+use sealing::{Line, LineName};
 
-// The ends of a line, each with a copy of the parts.
-fn make<C: Copy, J: Copy>(
-    line: &[u8; 8],
-    first: u64,
-    cipher: C,
-    hash: J,
-) -> Result<Hall<C, J>, SenderFault>
-    ensures made { stood result ≡ standing (record { cipher = cipher; hash = hash; line = line.now }) (making cipher hash line.now first) }
+// The ends of a line, each with a copy of it.
+fn make<C: Copy, J: Copy>(line: Line<C, J>, first: u64) -> Result<Hall<C, J>, SenderFault>
+    ensures made { stood result ≡ standing (parts_of line) (making line.cipher line.hash line.name.bytes first) }
     ensures begun { Begun result }
 {
-    let line = LineName::new(line);
-    let sender = Sender::new(cipher, hash, line, first)?;
-    let receiver = Receiver::new(cipher, hash, line);
+    let sender = Sender::new(line, first)?;
+    let receiver = Receiver::new(line);
     Ok(Hall {
         sender,
         receiver,
@@ -45,7 +39,9 @@ fn open_as<H: FromKey + Copy, E: FromKey + Copy>(
     ensures begun { Begun result }
 {
     let (cipher, hash) = parts(opening)?;
-    Ok(make(&opening.line, opening.first, cipher, hash)?)
+    let name = LineName::new(&opening.line);
+    let line = Line { cipher, hash, name };
+    Ok(make(line, opening.first)?)
 }
 
 // Makes the ends that an `ends` form asks for, or refuses.
@@ -64,11 +60,6 @@ pub fn open(line: &[u8]) -> Result<Opened, Reply>
     ensures opens { Opens line.now result }
     ensures begins { Begins result }
 {
-    match read_opening(line) {
-        Err(Unread(column)) => Err(Reply::Unread(column)),
-        Ok(opening) => match make_ends(&opening) {
-            Ok(opened) => Ok(opened),
-            Err(refusal) => Err(Reply::Refused(refusal)),
-        },
-    }
+    let opening = read_opening(line)?;
+    Ok(make_ends(&opening)?)
 }

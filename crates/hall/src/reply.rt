@@ -1,7 +1,9 @@
 // What a later line is answered, before the record or the text is taken out of its area.
+ghost use Rattle.std.specs.Prelude.{◌≡◌};
 ghost use Rattle.hall.specs.Replies.{Tells};
+ghost use Rattle.hall.specs.declared.reply.Reply.TheVariants.{Unread as Unreadable, Refused as Refuses};
 
-use forms::Answer;
+use forms::{Answer, Unread};
 use refusals::Refusal;
 
 #[derive(Clone, Copy)]
@@ -15,6 +17,22 @@ pub enum Reply {
     Text(usize),
     Refused(Refusal),
     Unread(usize),
+}
+
+impl From<Unread> for Reply {
+    ghost from_gives = { λ u r. r ≡ Unreadable u.0 };
+
+    fn from(unread: Unread) -> Reply {
+        Reply::Unread(unread.0)
+    }
+}
+
+impl From<Refusal> for Reply {
+    ghost from_gives = { λ f r. r ≡ Refuses f };
+
+    fn from(refusal: Refusal) -> Reply {
+        Reply::Refused(refusal)
+    }
 }
 
 impl Reply {

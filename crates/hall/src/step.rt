@@ -11,7 +11,7 @@ use crate::hall::Hall;
 use crate::reply::Reply;
 use ciphers::WideCipher;
 use ends::Returned;
-use forms::{Command, Hex, Unread, read_command};
+use forms::{Command, Hex, read_command};
 use hashes::KeyedHash;
 use sealing::Work;
 
@@ -123,7 +123,7 @@ impl<C: WideCipher, J: KeyedHash> Hall<C, J> {
     {
         match read_command(line) {
             Ok(command) => self.obey(command, first, second, work, out),
-            Err(Unread(column)) => Reply::Unread(column),
+            Err(unread) => unread.into(),
         }
     }
 
