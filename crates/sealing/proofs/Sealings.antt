@@ -8,7 +8,7 @@ use Rattle.std.proofs.lemmas.List.{append_cancel_left, drop_at, length-append, l
 use Rattle.ciphers.specs.Admitted.{Admitted}
 use Rattle.ciphers.proofs.Verdicts.{within}
 use Rattle.sealing.proofs.Examined.{Examined, examined, examines, unless-ok, admitting-ok, same-value}
-use Rattle.sealing.specs.Calls.{plain, number_of, text_of, tagged, fitting, sealing, examining, opening, placed}
+use Rattle.sealing.specs.Calls.{plain, number_of, text_of, tagged, fitting, examining, opening, placed}
 use Rattle.sealing.specs.Exactly.{LawfulSizes, OpensExactly}
 use Rattle.sealing.specs.Meaning.{Meaning, Lawful}
 use Rattle.sealing.specs.Sealing.{tag, record_of, IsSealing}

@@ -69,7 +69,7 @@ impl<C: WideCipher, J: KeyedHash> Line<C, J> {
         ensures answer { result ≡ same (take 16 (plain (meaning_of C.WideCipher J.KeyedHash self.now) «record».now)) (tag_of (meaning_of C.WideCipher J.KeyedHash self.now) header.now) }
         ensures after { body.new ≡ plain (meaning_of C.WideCipher J.KeyedHash self.now) «record».now }
     {
-        body.copy_from_slice(&record[8..record.len()]);
+        body.copy_from_slice(&record[8..]);
         if let Err(_) = self.cipher.decipher(&front(record), body) {
             unreachable()
         }

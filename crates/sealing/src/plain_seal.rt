@@ -46,9 +46,9 @@ impl<C: WideCipher, J: KeyedHash> Line<C, J> {
         let tweak = be_bytes(number);
         let tag = self.tag(header);
         area[0..8].copy_from_slice(&tweak);
-        let body = &mut area[8..text.len() + 24];
+        let body = &mut area[8..];
         body[0..16].copy_from_slice(&tag);
-        body[16..text.len() + 16].copy_from_slice(text);
+        body[16..].copy_from_slice(text);
         if let Err(_) = self.cipher.encipher(&tweak, body) {
             unreachable()
         }
