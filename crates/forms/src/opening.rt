@@ -2,7 +2,7 @@
 ghost use Rattle.std.specs.Prelude.{◌≡◌};
 ghost use Rattle.forms.specs.Columns.{Reads, Only};
 ghost use Rattle.forms.specs.Said.{bytes_of, ends_of, said};
-ghost use Rattle.forms.specs.Scans.{keys as keys_scan, line_name, first_number, ends as ends_scan};
+ghost use Rattle.forms.specs.Scans.{piled, keys as keys_scan, line_name, first_number, ends as ends_scan};
 ghost use Rattle.forms.specs.Spelling.{Opens};
 ghost use Rattle.forms.specs.Taking.{taken};
 
@@ -26,6 +26,17 @@ pub struct Opening<'a> {
     pub header_key: Hex<'a>,
     pub line: [u8; 8],
     pub first: u64,
+}
+
+// The pile that a letter names.
+fn pile_of(letter: u8) -> Option<Pile>
+    ensures { result ≡ piled letter }
+{
+    match letter {
+        b'a' => Some(Pile::A),
+        b'b' => Some(Pile::B),
+        _ => None,
+    }
 }
 
 // Takes the three keys.
@@ -64,7 +75,7 @@ fn ends<'a>(reader: &mut Reader<'a>) -> Result<Opening<'a>, Stuck>
     ensures { taken ends_of result reader.new.rest.now ≡ ends_scan reader.old.rest.now }
 {
     reader.literal(b"(ends (pile ")?;
-    let pile = reader.pile()?;
+    let pile = reader.one(pile_of)?;
     let (hash_key, expander_key, header_key) = keys(reader)?;
     let line = line_name(reader)?;
     let first = first_number(reader)?;
