@@ -1,8 +1,9 @@
 -- Digits and the numbers that they stand for, byte strings and their spelling.
-use Rattle.std.proofs.Common.{◌≡◌, ℕ, zero, suc, ◌+◌, ◌-◌, ◌*◌, ◌/◌, ◌%◌, ◌<◌, ◌≤◌, true, ltb, leb, List, [], ◌∷◌, ◌++◌, length, get_or, take, drop, set, Some, None, Ok, Option, unwrap_or, sym, refl, ap, ◌∙◌, ap₂, ⊎_elim, append_assoc, arith}
+use Rattle.std.proofs.Common.{◌≡◌, ℕ, zero, suc, ◌+◌, ◌-◌, ◌*◌, ◌/◌, ◌%◌, ◌<◌, ◌≤◌, true, ltb, leb, List, [], ◌∷◌, ◌++◌, length, get_or, take, drop, set, Some, None, Ok, Option, unwrap_or, sym, refl, ap, ◌∙◌, ⊎_elim, append_assoc, arith}
 use Rattle.std.proofs.lemmas.List.{drop_more, take_more, take_all, set_at, length-take-le}
 use Rattle.std.proofs.lemmas.Bool.{cases_lt, cond_both, cond-true, cond-false, ltb-true, ltb-false, lt-ltb, le-ltb, le-leb}
 use Rattle.octets.specs.Strings.{Bytes}
+use Rattle.std.specs.Simd.{first_chunks}
 use Rattle.forms.specs.Decoding.{decoded, placed}
 use Rattle.forms.specs.Hex.{digit, pairs, hexed, worth, unhexed, nibbled}
 use Rattle.forms.specs.Scans.{tenth}
@@ -97,15 +98,14 @@ worth-small c = at (nibbled c) refl
     at None e = omega arith
     at (Some d) e = (nibbled-some c d e).0
 
-pub unhexed-at : (ds : List ℕ) (i : ℕ) → i < length ds / 2 → get_or (unhexed ds) i 0 ≡ worth (get_or ds (2 * i) 0) * 16 + worth (get_or ds (2 * i + 1) 0)
+-- the byte at i is that of the pair at i
+pub unhexed-at : (ds : List ℕ) (i n : ℕ) → i < n → n ≤ length ds / 2 → let pair = get_or (first_chunks 2 n ds) i [] in worth (get_or pair 0 0) * 16 + worth (get_or pair 1 0) ≡ get_or (unhexed ds) i 0
 unfolding unhexed
-unhexed-at [] i h = absurd (omega arith)
-unhexed-at (c ∷ []) i h = absurd (omega arith)
-unhexed-at (h ∷ l ∷ ds) zero lt = refl
-unhexed-at (h ∷ l ∷ ds) (suc i) lt =
-    let e : 2 * suc i ≡ suc (suc (2 * i)) = omega arith in
-    let f : 2 * suc i + 1 ≡ suc (suc (2 * i + 1)) = omega arith in
-    unhexed-at ds i (omega arith) ∙ sym (ap₂ (λ m n. worth (get_or (h ∷ l ∷ ds) m 0) * 16 + worth (get_or (h ∷ l ∷ ds) n 0)) e f)
+unhexed-at ds i zero h k = absurd (omega arith)
+unhexed-at [] i (suc n) h k = absurd (omega arith)
+unhexed-at (c ∷ []) i (suc n) h k = absurd (omega arith)
+unhexed-at (h ∷ l ∷ ds) zero (suc n) lt k = refl
+unhexed-at (h ∷ l ∷ ds) (suc i) (suc n) lt k = unhexed-at ds i n (omega arith) (omega arith)
 
 -- one more byte at the front of an area
 pub front-more : (bs area : List ℕ) (i b : ℕ) → i < length bs → length bs ≤ length area → b ≡ get_or bs i 0 → set (take i bs ++ drop i area) i b ≡ take (i + 1) bs ++ drop (i + 1) area

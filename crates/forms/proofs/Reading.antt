@@ -1,14 +1,18 @@
 -- From what the reader answers to what reading a line is to answer.
-use Rattle.std.proofs.Common.{◌≡◌, ℕ, ◌≤◌, Bool, true, false, cond, eqb, leb, ◌⊎◌, List, [], ◌∷◌, length, get_or, IsErrAnd, Ok, Err, codes, Result, sym, refl, ap, ◌∙◌, subst, ap₂, inl, inr, arith, length-append}
+use Rattle.std.proofs.Common.{◌≡◌, ℕ, ◌≤◌, Bool, true, false, cond, eqb, leb, ◌⊎◌, List, [], ◌∷◌, length, get_or, Ok, Err, codes, Result, sym, refl, ap, ◌∙◌, subst, ap₂, inl, inr, arith, length-append}
 use Rattle.forms.specs.declared.reader.Stuck.{Stuck}
 use Rattle.forms.specs.declared.unread.Unread.{Unread}
 use Rattle.forms.specs.Columns.{Reads, Only}
-use Rattle.forms.specs.Said.{said}
-use Rattle.forms.specs.Scans.{Got, Scan, pure, onward, bind, whole, either, limited, ends, word, strings, of_strings}
+use Rattle.forms.specs.Said.{bytes_of, asked_of, said}
+use Rattle.forms.specs.declared.command.Command.{Command}
+use Rattle.forms.specs.declared.hex.Hex.{Hex}
+use Rattle.std.specs.Result.{MatchResult, IsOkAnd, result_and}
+use Rattle.forms.specs.Scans.{Got, Scan, pure, onward, bind, whole, either, limited, ends, literal, word, strings, of_strings}
 use Rattle.forms.specs.Spelling.{Ends, Opens, Asked, draw, give_up, seal, receive, Asks}
 use Rattle.forms.specs.Taking.{taken}
 use Rattle.forms.proofs.Halting.{Told, told-whole, told-iff, told-either, reads-limited, reads-once, once, spelt-whole}
 use Rattle.forms.proofs.Lawful.{Lawful, ok-parts}
+use Rattle.forms.proofs.Rests.{bind_ok, bind-err}
 use Rattle.forms.proofs.Words.{lawful-ends, lawful-word, FormWord, lawful-of-strings}
 
 -- what is left after a scan is no longer than the line
@@ -61,15 +65,29 @@ module _ {X Y : Type 0} (of : X → Y) where
       at (Ok (x, b ∷ t)) = refl
       at (Err t) = refl
 
--- what the exit of a `?` hands on
-pub passed_on : {X Y : Type 0} (of : X → Y) (g : Result Y ℕ) (r : Result X Unread) (u : Unread) → IsErrAnd r (λ v. v ≡ u) → Err u.0 ≡ g → said of r ≡ g
-passed_on of g (Ok x) u b e = absurd b
-passed_on of g (Err v) u b e = ap (λ (w : Unread). Err w.0) b ∙ e
+-- what a map of an `Ok` gives
+pub ok-is : {X E : Type 0} (r : Result X E) (P : X → Type 0) (k : X) → IsOkAnd r P → ((x : X) → P x → x ≡ k) → r ≡ Ok k
+ok-is (Ok x) P k b one = ap Ok (one x b)
+ok-is (Err e) P k b one = absurd b
+
+-- a form of one word
+pub made_word : (r : Result (Unit {0}) Stuck) (t text s : List ℕ) (k : Command) → taken (λ x. x) r t ≡ literal text s → taken asked_of (result_and r (Ok k)) t ≡ word text (asked_of k) s
+unfolding word
+made_word (Ok x) t text s k e = sym (bind_ok _ _ s t tt e)
+made_word (Err x) t text s k e = bind-err _ _ s t e
 
 -- a form of two byte strings, or its column
-pub of-strings : {F : Type 0} (form : List ℕ → List ℕ → F) (before between : List ℕ) (n : ℕ) (s : List ℕ) (r : Result (List ℕ × List ℕ) ℕ) → r ≡ whole n (strings before between s) → mapped (λ p. form p.0 p.1) r ≡ whole n (of_strings before between form s)
+made_from : (form : List ℕ → List ℕ → Asked) (before between : List ℕ) (n : ℕ) (s : List ℕ) (r : Result (List ℕ × List ℕ) ℕ) → r ≡ whole n (strings before between s) → mapped (λ p. form p.0 p.1) r ≡ whole n (of_strings before between form s)
 unfolding of_strings
-of-strings form before between n s r e = ap (mapped (λ p. form p.0 p.1)) e ∙ sym (whole-made (λ p. form p.0 p.1) n (strings before between) s)
+made_from form before between n s r e = ap (mapped (λ p. form p.0 p.1)) e ∙ sym (whole-made (λ p. form p.0 p.1) n (strings before between) s)
+
+module _ (make : Hex → Hex → Command) (form : List ℕ → List ℕ → Asked) (says : (a b : Hex) → asked_of (make a b) ≡ form (bytes_of a) (bytes_of b)) where
+  made_pair : (r : Result (Hex × Hex) Unread) (q : Result Command Unread) → MatchResult r (λ p. q ≡ Ok (make p.0 p.1)) (λ u. q ≡ Err u) → said asked_of q ≡ mapped {X = List ℕ × List ℕ} (λ p. form p.0 p.1) (said (λ p. (bytes_of p.0, bytes_of p.1)) r)
+  made_pair (Ok p) q m = ap (said asked_of) m ∙ ap Ok (says p.0 p.1)
+  made_pair (Err u) q m = ap (said asked_of) m
+
+  pub made_of : (r : Result (Hex × Hex) Unread) (q : Result Command Unread) (before between : List ℕ) (n : ℕ) (s : List ℕ) → MatchResult r (λ p. q ≡ Ok (make p.0 p.1)) (λ u. q ≡ Err u) → said (λ p. (bytes_of p.0, bytes_of p.1)) r ≡ whole n (strings before between s) → said asked_of q ≡ whole n (of_strings before between form s)
+  made_of r q before between n s m e = made_pair r q m ∙ made_from form before between n s _ e
 
 -- an answer that is read from a line, and the only one
 pub record Read {F : Type 0} (V : F → List ℕ → Type 0) (s : List ℕ) (a : Result F ℕ) : Type 0 where

@@ -1,6 +1,6 @@
 -- Scans of what is left of a line, as the reader's slices have it.
-use Rattle.std.proofs.Common.{◌≡◌, ℕ, ◌+◌, ◌-◌, ◌<◌, List, [], ◌∷◌, length, get_or, take, drop, IsErrAnd, Some, None, Ok, Err, Option, Result, sym, refl, ap, ◌∙◌, arith}
-use Rattle.std.proofs.lemmas.List.{take_all}
+use Rattle.std.proofs.Common.{◌≡◌, ℕ, ◌+◌, ◌<◌, true, false, List, [], ◌∷◌, length, is_ok, IsErrAnd, Some, None, Ok, Err, Option, Result, sym, refl, ap, ◌∙◌, arith}
+use Rattle.std.specs.List.{IsFirstAndRest}
 use Rattle.forms.specs.declared.reader.Stuck.{Stuck}
 use Rattle.forms.specs.Hex.{nibbled}
 use Rattle.forms.specs.Scans.{Got, Scan, onward, bind, run, follow, done, takes, one, tenth}
@@ -9,20 +9,19 @@ use Rattle.forms.proofs.Digits.{nibbled-some, tenth-some}
 use Rattle.forms.proofs.Lawful.{clash, ok-parts}
 
 module _ {X : Type 0} (f : ℕ → Option X) where
-  pub one-empty : (s : List ℕ) → length s < 1 → ◌≡◌ {A = Got X} (Err s) (one f s)
+  pub one-empty : (s : List ℕ) → length s ≡ 0 → ◌≡◌ {A = Got X} (Err s) (one f s)
   unfolding one run
   one-empty [] h = refl
   one-empty (b ∷ s) h = absurd (omega arith)
 
-  pub one_none : (s : List ℕ) → 0 < length s → None ≡ f (get_or s 0 0) → ◌≡◌ {A = Got X} (Err s) (one f s)
-  unfolding one run
-  one_none [] h e = absurd (omega arith)
-  one_none (b ∷ s) h e = rw (sym e) refl
+  module _ (s t : List ℕ) (b : ℕ) (parts : IsFirstAndRest s b t) where
+    pub one_none : None ≡ f b → ◌≡◌ {A = Got X} (Err s) (one f s)
+    unfolding one run
+    one_none e = rw parts.0 (rw (sym e) refl)
 
-  pub one-some : (s : List ℕ) (x : X) → 0 < length s → Some x ≡ f (get_or s 0 0) → ◌≡◌ {A = Got X} (Ok (x, take (length s - 1) (drop 1 s))) (one f s)
-  unfolding one run
-  one-some [] x h e = absurd (omega arith)
-  one-some (b ∷ s) x h e = rw (sym e) (ap (λ (l : List ℕ). Ok (x, l)) (take_all (length (b ∷ s) - 1) s (omega arith)))
+    pub one-some : (x : X) → Some x ≡ f b → ◌≡◌ {A = Got X} (Ok (x, t)) (one f s)
+    unfolding one run
+    one-some x e = rw parts.0 (rw (sym e) refl)
 
   -- the byte that was taken
   pub one-taken : (s t : List ℕ) (x : X) → ◌≡◌ {A = Got X} (Ok (x, t)) (one f s) → (b : ℕ) × (s ≡ b ∷ t) × (f b ≡ Some x)
@@ -56,6 +55,15 @@ module _ {X Y : Type 0} (m : Scan X) (k : X → Scan Y) where
   pub bind-err : (s t : List ℕ) → Err t ≡ m s → Err t ≡ bind m k s
   unfolding bind
   bind-err s t e = ap (onward k) e
+
+-- whether a byte was taken
+pub went : (r : Result (Unit {0}) Stuck) (t : List ℕ) (g : Got (Unit {0})) → is_ok r ≡ true → taken (λ x. x) r t ≡ g → Ok (tt, t) ≡ g
+went (Ok x) t g e h = h
+went (Err x) t g e h = cc
+
+pub kept : (r : Result (Unit {0}) Stuck) (t : List ℕ) (g : Got (Unit {0})) → is_ok r ≡ false → taken (λ x. x) r t ≡ g → Err t ≡ g
+kept (Ok x) t g e h = cc
+kept (Err x) t g e h = h
 
 -- what the exit of a `?` hands on
 pub handed : {X Y : Type 0} (f : X → Y) (g : Got Y) (r : Result X Stuck) (Q : Stuck → Type 0) (t : List ℕ) → IsErrAnd r Q → Err t ≡ g → taken f r t ≡ g

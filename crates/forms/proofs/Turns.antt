@@ -1,12 +1,11 @@
 -- The turns of the reader's loops: each leaves what the scan still answers as it was.
-use Rattle.std.proofs.Common.{◌≡◌, ℕ, suc, ◌+◌, ◌-◌, ◌*◌, ◌^◌, ◌<◌, ◌≤◌, Bool, true, false, cond, eqb, ◌⊎◌, List, [], ◌∷◌, ◌++◌, length, get_or, take, drop, set, Some, None, Ok, Err, Option, sym, refl, ap, ◌∙◌, subst, inl, inr, ⊎_elim, append_assoc, arith, lit≤, length-append}
+use Rattle.std.proofs.Common.{◌≡◌, ℕ, suc, ◌+◌, ◌-◌, ◌*◌, ◌^◌, ◌<◌, ◌≤◌, Bool, true, false, cond, eqb, ◌⊎◌, List, [], ◌∷◌, ◌++◌, length, get_or, take, drop, set, Some, None, Ok, Err, Option, sym, refl, ap, ◌∙◌, inl, inr, ⊎_elim, append_assoc, arith, lit≤, length-append}
 use native.Mathlib.Nat.{pow-le-pow_right}
 use native.Mathlib.Numerals.{unary_clauses}
 use Rattle.std.proofs.lemmas.List.{drop_more, take_more_set, take_at, take_all}
 use Rattle.std.proofs.lemmas.Bool.{cond-true, cond-false}
-use Rattle.forms.specs.declared.opening.Pile.TheVariants.{A, B}
 use Rattle.forms.specs.Hex.{nibbled, hexed, unhexed}
-use Rattle.forms.specs.Scans.{Got, pure, onward, bind, Move, go, done, stuck, run, takes, one, is, literal, byte, bytes, tenth, Hexing, start, dash, even, odd, hexing, hex, none, some, another, counting, number, piled}
+use Rattle.forms.specs.Scans.{Got, pure, onward, bind, Move, go, done, stuck, run, takes, one, is, literal, byte, bytes, tenth, Hexing, start, dash, even, odd, hexing, hex, none, some, another, counting, number}
 use Rattle.forms.proofs.Digits.{none-some, unhexed-hexed}
 use Rattle.forms.proofs.Hexes.{lawful-hex}
 use Rattle.forms.proofs.Lawful.{clash, ok-parts}
@@ -50,27 +49,6 @@ literal-more text s t i h e = ap (λ (l : List ℕ). literal l s) (drop_more tex
 pub literal-stuck : (text s t : List ℕ) (i : ℕ) → i < length text → Err t ≡ one (is (get_or text i 0)) s → Err t ≡ literal (drop i text) s
 unfolding literal
 literal-stuck text s t i h e = bind-err _ _ s t e ∙ ap (λ (l : List ℕ). literal l s) (sym (drop_more text i 0 h))
-
--- the letter of a pile
-pub pile-a : (s t : List ℕ) → Ok (tt, t) ≡ one (is 97) s → Ok (A, t) ≡ one piled s
-unfolding one run
-pile-a s t e = let a = one-taken (is 97) s t tt e in let k = is-taken 97 a.0 tt a.2 in subst (λ (l : List ℕ). Ok (A, t) ≡ one piled l) (sym a.1) (rw k refl)
-
-pub pile-b : (s r t : List ℕ) → Err r ≡ one (is 97) s → Ok (tt, t) ≡ one (is 98) r → Ok (B, t) ≡ one piled s
-unfolding one run
-pile-b s r t e f =
-    let a = one_left (is 97) s r e in
-    let b = one-taken (is 98) r t tt f in
-    let k = is-taken 98 b.0 tt b.2 in
-    let n = is-left 97 b.0 (a.1 b.0 t (sym a.0 ∙ b.1)) in
-    subst (λ (l : List ℕ). Ok (B, t) ≡ one piled l) (sym (sym a.0 ∙ b.1)) (rw (n, k) refl)
-
-pub pile-stuck : (s r t : List ℕ) → Err r ≡ one (is 97) s → Err t ≡ one (is 98) r → Err t ≡ one piled s
-unfolding one
-pile-stuck s r t e f =
-    let a = one_left (is 97) s r e in
-    let b = one_left (is 98) r t f in
-    run-stuck _ tt s t (b.0 ∙ a.0) (λ c u i. let k = is-left 97 c (a.1 c u i) in let n = is-left 98 c (b.1 c u (a.0 ∙ i)) in rw (k, n) refl)
 
 -- the digits of the name of a line
 pub name-more : (name s t : List ℕ) (i b : ℕ) → i < 8 → length name ≡ 8 → Ok (b, t) ≡ byte s → bytes (8 - i) (take i name) s ≡ bytes (8 - (i + 1)) (take (i + 1) (set name i b)) t

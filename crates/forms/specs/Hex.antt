@@ -1,7 +1,9 @@
 -- How a byte string stands in a line: two lower-case hexadecimal digits for each byte, or `-` where there is none.
-use Rattle.std.specs.Prelude.{◌≡◌, ℕ, ◌+◌, ◌-◌, ◌*◌, ◌/◌, ◌%◌, Bool, true, false, cond, List, [], ◌∷◌, length, is_some, Some, None, codes, Option, ◌==◌, ◌≢◌, nat_lt}
-use Rattle.octets.specs.Strings.{Bytes, same}
+use Rattle.std.specs.Prelude.{◌≡◌, ℕ, ◌+◌, ◌-◌, ◌*◌, ◌/◌, ◌%◌, Bool, not, cond, List, [], ◌∷◌, length, is_some, Some, None, codes, Option, ◌==◌, ◌&&◌, ◌≢◌, nat_lt}
+use Rattle.octets.specs.Strings.{Bytes}
+use Rattle.std.specs.List.{list_all}
 use Rattle.std.specs.Option.{unwrap_or}
+use Rattle.std.specs.Str.{bytes_eq}
 
 -- the digit of a number below 16
 abbrev pub digit : ℕ → ℕ
@@ -32,14 +34,16 @@ unhexed (c ∷ []) = []
 unhexed (h ∷ l ∷ cs) = (worth h * 16 + worth l) ∷ unhexed cs
 
 -- whether each byte is a digit
-unfoldable pub digits : List ℕ → Bool
-digits [] = true
-digits (c ∷ cs) = cond (is_some (nibbled c)) (digits cs) false
+abbrev pub digits : List ℕ → Bool
+digits cs = list_all (λ c. is_some (nibbled c)) cs
+
+-- whether a word is two digits for each of one byte or more
+abbrev pub paired : List ℕ → Bool
+paired w = not (length w == 0) && (length w % 2 == 0) && digits w
 
 -- the bytes that a whole word spells, if it is a spelling
 abbrev pub spelled_by : List ℕ → Option (List ℕ)
-spelled_by w =
-    cond (same w (codes "-")) (Some []) (cond (length w == 0) None (cond (length w % 2 == 0) (cond (digits w) (Some (unhexed w)) None) None))
+spelled_by w = cond (bytes_eq w (codes "-")) (Some []) (cond (paired w) (Some (unhexed w)) None)
 
 -- the word w spells the byte string that was read of it, or none
 abbrev pub Spelt : List ℕ → Option (List ℕ) → Type 0

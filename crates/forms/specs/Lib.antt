@@ -7,3 +7,4 @@ pub mod Spelling
 pub mod Said
 pub mod Scans
 pub mod Taking
+pub mod Words

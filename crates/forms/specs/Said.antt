@@ -3,6 +3,7 @@ use Rattle.std.specs.Prelude.{ℕ, List, Some, None, Ok, Err, Option, Result}
 use Rattle.forms.specs.declared.command.Command.{Command}
 use Rattle.forms.specs.declared.command.Command.TheVariants.{Draw, GiveUp, Seal, Receive}
 use Rattle.forms.specs.declared.hex.Hex.{Hex}
+use Rattle.forms.specs.declared.opening.Keys.{Keys}
 use Rattle.forms.specs.declared.opening.Opening.{Opening}
 use Rattle.forms.specs.declared.unread.Unread.{Unread}
 use Rattle.forms.specs.Hex.{unhexed}
@@ -17,8 +18,11 @@ abbrev pub heard : Option Hex → Option (List ℕ)
 heard None = None
 heard (Some h) = Some (bytes_of h)
 
+abbrev pub keys_of : Keys → List ℕ × List ℕ × List ℕ
+keys_of k = (bytes_of k.hash, bytes_of k.expander, bytes_of k.header)
+
 abbrev pub ends_of : Opening → Ends
-ends_of o = record { pile = o.pile; hash_key = bytes_of o.hash_key; expander_key = bytes_of o.expander_key; header_key = bytes_of o.header_key; line = o.line; first = o.first }
+ends_of o = record { pile = o.pile; hash_key = bytes_of o.keys.hash; expander_key = bytes_of o.keys.expander; header_key = bytes_of o.keys.header; line = o.line; first = o.first }
 
 abbrev pub asked_of : Command → Asked
 asked_of Draw = draw

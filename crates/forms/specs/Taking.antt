@@ -1,5 +1,5 @@
 -- What the code answers, as a scan says it.
-use Rattle.std.specs.Prelude.{ℕ, Bool, true, false, List, Ok, Err, Result}
+use Rattle.std.specs.Prelude.{ℕ, List, Ok, Err, Result}
 use Rattle.forms.specs.declared.reader.Stuck.{Stuck}
 use Rattle.forms.specs.Scans.{Got}
 
@@ -7,7 +7,3 @@ use Rattle.forms.specs.Scans.{Got}
 abbrev pub taken : {X Y : Type 0} → (X → Y) → Result X Stuck → List ℕ → Got Y
 taken f (Ok x) t = Ok (f x, t)
 taken f (Err e) t = Err t
-
-abbrev pub ate : Bool → List ℕ → Got (Unit {0})
-ate true t = Ok (tt, t)
-ate false t = Err t

@@ -20,29 +20,12 @@ pub enum Command<'a> {
     Receive { header: Hex<'a>, record: Hex<'a> },
 }
 
-// Takes a form that is one word.
-fn word<'a>(reader: &mut Reader, text: &[u8], command: Command<'a>) -> Result<Command<'a>, Stuck>
-    ensures { taken asked_of result reader.new.rest.now ≡ word_scan text.now (asked_of command.entry) reader.old.rest.now }
-{
-    reader.literal(text)?;
-    Ok(command)
-}
-
-// A line that is to be `(draw)`.
-fn draw(line: &[u8]) -> Result<Command<'_>, Unread>
-    ensures { said asked_of result ≡ whole (length line.now) (word_scan (codes "(draw)") (asked_of Draw) line.now) }
+// A line that is to be a form of one word.
+fn word<'a>(line: &'a [u8], text: &[u8], command: Command<'a>) -> Result<Command<'a>, Unread>
+    ensures { said asked_of result ≡ whole (length line.now) (word_scan text.now (asked_of command.entry) line.now) }
 {
     let mut reader = Reader { rest: line };
-    let form = word(&mut reader, b"(draw)", Command::Draw);
-    reader.finish(line, form)
-}
-
-// A line that is to be `(give-up)`.
-fn give_up(line: &[u8]) -> Result<Command<'_>, Unread>
-    ensures { said asked_of result ≡ whole (length line.now) (word_scan (codes "(give-up)") (asked_of GiveUp) line.now) }
-{
-    let mut reader = Reader { rest: line };
-    let form = word(&mut reader, b"(give-up)", Command::GiveUp);
+    let form = reader.literal(text).and(Ok(command));
     reader.finish(line, form)
 }
 
@@ -75,28 +58,16 @@ fn two_strings<'a>(
     reader.finish(line, form)
 }
 
-// A line that is to be `(seal (header HEX) (text HEX))`.
-fn seal(line: &[u8]) -> Result<Command<'_>, Unread>
-    ensures { said asked_of result ≡ whole (length line.now) (of_strings (codes "(seal (header ") (codes " (text ") sealed line.now) }
-{
-    let (header, text) = two_strings(line, b"(seal (header ", b" (text ")?;
-    Ok(Command::Seal { header, text })
-}
-
-// A line that is to be `(receive (header HEX) (record HEX))`.
-fn receive(line: &[u8]) -> Result<Command<'_>, Unread>
-    ensures { said asked_of result ≡ whole (length line.now) (of_strings (codes "(receive (header ") (codes " (record ") received line.now) }
-{
-    let (header, record) = two_strings(line, b"(receive (header ", b" (record ")?;
-    Ok(Command::Receive { header, record })
-}
-
 // Reads a later line.
 pub fn read_command(line: &[u8]) -> Result<Command<'_>, Unread>
     ensures reads { Reads Asks line.now (said asked_of result) }
     ensures only { Only Asks line.now (said asked_of result) }
 {
-    let words = either(draw(line), give_up(line));
-    let strings = either(seal(line), receive(line));
-    limited(line, either(words, strings))
+    let draw = word(line, b"(draw)", Command::Draw);
+    let give_up = word(line, b"(give-up)", Command::GiveUp);
+    let seal = two_strings(line, b"(seal (header ", b" (text ");
+    let receive = two_strings(line, b"(receive (header ", b" (record ");
+    let seal = seal.map(|(header, text)| Command::Seal { header, text });
+    let receive = receive.map(|(header, record)| Command::Receive { header, record });
+    limited(line, either(either(draw, give_up), either(seal, receive)))
 }

@@ -1,10 +1,10 @@
 // A byte string as it stands in a line: how it is read, and how it is written.
-ghost use Rattle.std.specs.Prelude.{◌≡◌, ◌+◌, ◌*◌, ◌<◌, length, Some};
+ghost use Rattle.std.specs.Prelude.{◌≡◌, ◌+◌, ◌*◌, length, Some};
 ghost use Rattle.forms.specs.Decoding.{decoded, placed};
-ghost use Rattle.forms.specs.Hex.{nibbled, worth, digit as digit_of, hexed, spelled_by, Spelt};
-ghost use Rattle.forms.specs.Said.{bytes_of, heard};
+ghost use Rattle.forms.specs.Hex.{nibbled, worth, digits, paired, hexed};
+ghost use Rattle.forms.specs.Said.{bytes_of};
+ghost use Rattle.forms.specs.Words.{Spells};
 
-use octets::equal;
 use std::fmt;
 
 // A byte string in hexadecimal, or `-` for none: what was read of a line, which it borrows.
@@ -16,6 +16,10 @@ pub struct Hex<'a> {
 // A byte string that is written in lower-case hexadecimal, or `-` for none.
 #[derive(Clone, Copy)]
 pub struct Hexadecimal<'a>(pub &'a [u8]);
+
+// A word spells no byte string.
+#[derive(Clone, Copy, PartialEq, Eq, Debug)]
+pub struct NotHex;
 
 // An area is too short for a byte string, which needs this length.
 #[derive(Clone, Copy, PartialEq, Eq, Debug)]
@@ -34,17 +38,6 @@ pub(crate) fn nibble(c: u8) -> Option<u8>
     }
 }
 
-// The digit of a number below 16.
-fn digit(value: u8) -> u8
-    requires { value < 16 }
-    ensures { result ≡ digit_of value }
-{
-    if value < 10 {
-        return b'0' + value;
-    }
-    b'a' + (value - 10)
-}
-
 // The byte that two digits stand for.
 fn pair(high: u8, low: u8) -> u8
     ensures { result ≡ worth high * 16 + worth low }
@@ -52,27 +45,31 @@ fn pair(high: u8, low: u8) -> u8
     nibble(high).unwrap_or(0) * 16 + nibble(low).unwrap_or(0)
 }
 
-impl<'a> Hex<'a> {
-    // The byte string that a whole word spells, if it spells one.
-    pub fn of(word: &'a [u8]) -> Option<Hex<'a>>
-        ensures value { heard result ≡ spelled_by word.now }
-        ensures spelled { Spelt word.now (heard result) }
-    {
-        if equal(word, b"-") {
-            return Some(Hex { digits: word });
+// Whether each byte of a word is a digit.
+fn is_digits(word: &[u8]) -> bool
+    ensures { result ≡ digits word.now }
+{
+    word.iter().all(|c| nibble(*c).is_some())
+}
+
+// Whether a word is two digits for each of one byte or more.
+fn is_pairs(word: &[u8]) -> bool
+    ensures { result ≡ paired word.now }
+{
+    !word.is_empty() && word.len() % 2 == 0 && is_digits(word)
+}
+
+// The byte string that a whole word spells, if it spells one.
+impl<'a> TryFrom<&'a [u8]> for Hex<'a> {
+    type Error = NotHex;
+
+    ghost try_from_gives = { λ word r. Spells word.now r };
+
+    fn try_from(word: &'a [u8]) -> Result<Hex<'a>, NotHex> {
+        if word == b"-".as_slice() || is_pairs(word) {
+            return Ok(Hex { digits: word });
         }
-        if word.is_empty() {
-            return None;
-        }
-        if word.len() % 2 != 0 {
-            return None;
-        }
-        for c in word {
-            if nibble(*c).is_none() {
-                return None;
-            }
-        }
-        Some(Hex { digits: word })
+        Err(NotHex)
     }
 }
 
@@ -89,13 +86,13 @@ impl Hex<'_> {
         ensures answer { result ≡ decoded (bytes_of self.now) (length area.old) }
         ensures after { area.new ≡ placed (bytes_of self.now) area.old }
     {
-        let digits = self.digits;
         let needed = self.len();
         if area.len() < needed {
             return Err(TooShort { needed });
         }
-        for i in 0..needed {
-            area[i] = pair(digits[2 * i], digits[2 * i + 1]);
+        let (pairs, _) = self.digits.as_chunks::<2>();
+        for (i, [high, low]) in pairs.iter().enumerate() {
+            area[i] = pair(*high, *low);
         }
         Ok(needed)
     }
@@ -105,13 +102,11 @@ impl fmt::Display for Hexadecimal<'_> {
     ghost output = { λ d. Some (hexed d.0.now) };
 
     fn fmt<W: fmt::Write>(&self, f: &mut fmt::Formatter<W>) -> fmt::Result {
-        let bytes = self.0;
-        if bytes.is_empty() {
+        if self.0.is_empty() {
             return f.write_str("-");
         }
-        for b in bytes {
-            f.write_char(char::from(digit(*b / 16)))?;
-            f.write_char(char::from(digit(*b % 16)))?;
+        for &b in self.0 {
+            write!(f, "{b:02x}")?;
         }
         Ok(())
     }

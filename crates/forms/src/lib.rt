@@ -10,6 +10,6 @@ pub mod unread;
 
 pub use answer::Answer;
 pub use command::{Command, read_command};
-pub use hex::{Hex, Hexadecimal, TooShort};
-pub use opening::{Opening, Pile, read_opening};
+pub use hex::{Hex, Hexadecimal, NotHex, TooShort};
+pub use opening::{Keys, Opening, Pile, read_opening};
 pub use unread::Unread;

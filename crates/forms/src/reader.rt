@@ -1,12 +1,11 @@
 // Takes the parts of a line one after another.
-ghost use Rattle.std.specs.Prelude.{◌≡◌, ◌≤◌, [], length, None};
-ghost use Rattle.forms.specs.Scans.{one, is, piled, tenth, byte as byte_scan, bytes as bytes_scan, literal as literal_scan, hex as hex_scan, number as number_scan, whole};
+ghost use Rattle.std.specs.Prelude.{◌≡◌, ℕ, ◌≤◌, [], length, None, Option};
+ghost use Rattle.forms.specs.Scans.{one, is, tenth, byte as byte_scan, bytes as bytes_scan, literal as literal_scan, hex as hex_scan, number as number_scan, whole};
 ghost use Rattle.forms.specs.Hex.{nibbled};
 ghost use Rattle.forms.specs.Said.{bytes_of, said};
-ghost use Rattle.forms.specs.Taking.{taken, ate};
+ghost use Rattle.forms.specs.Taking.{taken};
 
 use crate::hex::{Hex, nibble};
-use crate::opening::Pile;
 use crate::unread::Unread;
 
 // How many digits a number may have.
@@ -23,79 +22,37 @@ pub(crate) struct Reader<'a> {
 }
 
 // The number that a decimal digit stands for.
-fn decimal_value(c: u8) -> Option<u8>
+fn decimal(c: u8) -> Option<u64>
     ensures { result ≡ tenth c }
 {
-    match c {
-        b'0'..=b'9' => Some(c - b'0'),
-        _ => None,
-    }
+    char::from(c).to_digit(10).map(u64::from)
 }
 
 impl<'a> Reader<'a> {
-    // Takes the next byte if it is `b`.
-    fn eat(&mut self, b: u8) -> bool
-        ensures { ate result self.new.rest.now ≡ one (is b) self.old.rest.now }
+    // Takes the next byte if it has a value.
+    pub(crate) fn one<V, F: FnOnce(u8) -> Option<V>>(&mut self, value: F) -> Result<V, Stuck>
+        requires { F.IsAlwaysCallable value }
+        ensures { (of : ℕ → Option V) → ((b : ℕ) (o : Option V) → F.post value b o → o ≡ of b) → taken (λ x. x) result self.new.rest.now ≡ one of self.old.rest.now }
     {
-        match self.rest {
-            [first, rest @ ..] => {
-                if *first != b {
-                    return false;
-                }
-                self.rest = rest;
-                true
-            }
-            [] => false,
-        }
-    }
-
-    // Takes a hexadecimal digit.
-    fn digit(&mut self) -> Result<u8, Stuck>
-        ensures { taken (λ x. x) result self.new.rest.now ≡ one nibbled self.old.rest.now }
-    {
-        let [first, rest @ ..] = self.rest else {
-            return Err(Stuck);
-        };
-        let Some(value) = nibble(*first) else {
-            return Err(Stuck);
-        };
+        let (first, rest) = self.rest.split_first().ok_or(Stuck)?;
+        let value = value(*first).ok_or(Stuck)?;
         self.rest = rest;
         Ok(value)
     }
 
-    // Takes a decimal digit.
-    fn decimal(&mut self) -> Result<u64, Stuck>
-        ensures { taken (λ x. x) result self.new.rest.now ≡ one tenth self.old.rest.now }
+    // Takes the byte `b`.
+    fn eat(&mut self, b: u8) -> Result<(), Stuck>
+        ensures { taken (λ x. x) result self.new.rest.now ≡ one (is b) self.old.rest.now }
     {
-        let [first, rest @ ..] = self.rest else {
-            return Err(Stuck);
-        };
-        let Some(value) = decimal_value(*first) else {
-            return Err(Stuck);
-        };
-        self.rest = rest;
-        Ok(u64::from(value))
-    }
-
-    // Takes the letter of a pile.
-    pub(crate) fn pile(&mut self) -> Result<Pile, Stuck>
-        ensures { taken (λ x. x) result self.new.rest.now ≡ one piled self.old.rest.now }
-    {
-        if self.eat(b'a') {
-            return Ok(Pile::A);
-        }
-        if self.eat(b'b') {
-            return Ok(Pile::B);
-        }
-        Err(Stuck)
+        self.one(|c| (c == b).then_some(()))
     }
 
     // Takes the two digits of a byte.
     fn byte(&mut self) -> Result<u8, Stuck>
         ensures { taken (λ x. x) result self.new.rest.now ≡ byte_scan self.old.rest.now }
     {
-        let high = self.digit()?;
-        let low = self.digit()?;
+        let high = self.one(nibble)?;
+        let low = self.one(nibble)?;
         Ok(high * 16 + low)
     }
 
@@ -104,9 +61,7 @@ impl<'a> Reader<'a> {
         ensures { taken (λ x. x) result self.new.rest.now ≡ literal_scan text.now self.old.rest.now }
     {
         for b in text {
-            if !self.eat(*b) {
-                return Err(Stuck);
-            }
+            self.eat(*b)?;
         }
         Ok(())
     }
@@ -116,8 +71,8 @@ impl<'a> Reader<'a> {
         ensures { taken (λ x. x) result self.new.rest.now ≡ bytes_scan 8 [] self.old.rest.now }
     {
         let mut name = [0; 8];
-        for i in 0..8 {
-            name[i] = self.byte()?;
+        for b in &mut name {
+            *b = self.byte()?;
         }
         Ok(name)
     }
@@ -126,17 +81,15 @@ impl<'a> Reader<'a> {
     pub(crate) fn number(&mut self) -> Result<u64, Stuck>
         ensures { taken (λ x. x) result self.new.rest.now ≡ number_scan self.old.rest.now }
     {
-        let mut value = self.decimal()?;
+        let mut value = self.one(decimal)?;
         for _count in 1..MOST_DIGITS {
-            if self.eat(b')') {
+            if self.eat(b')').is_ok() {
                 return Ok(value);
             }
-            value = value * 10 + self.decimal()?;
+            value = value * 10 + self.one(decimal)?;
         }
-        if self.eat(b')') {
-            return Ok(value);
-        }
-        Err(Stuck)
+        self.eat(b')')?;
+        Ok(value)
     }
 
     // Takes a byte string and the byte `close` after it.
@@ -145,21 +98,17 @@ impl<'a> Reader<'a> {
         ensures { taken bytes_of result self.new.rest.now ≡ hex_scan close self.old.rest.now }
     {
         let line = self.rest;
-        if self.eat(b'-') {
-            if self.eat(close) {
-                return Ok(Hex {
-                    digits: &line[0..1],
-                });
-            }
-            return Err(Stuck);
+        if self.eat(b'-').is_ok() {
+            self.eat(close)?;
+            return Ok(Hex { digits: &line[..1] });
         }
         self.byte()?;
-        while !self.eat(close) {
+        while self.eat(close).is_err() {
             self.byte()?;
         }
         let end = line.len() - self.rest.len() - 1;
         Ok(Hex {
-            digits: &line[0..end],
+            digits: &line[..end],
         })
     }
 
@@ -168,11 +117,9 @@ impl<'a> Reader<'a> {
         requires { length self.now.rest.now ≤ length line.now }
         ensures { said (λ x. x) result ≡ whole (length line.now) (taken (λ x. x) form self.now.rest.now) }
     {
-        if let Ok(form) = form {
-            if self.rest.is_empty() {
-                return Ok(form);
-            }
+        match form {
+            Ok(form) if self.rest.is_empty() => Ok(form),
+            _ => Err(Unread(line.len() - self.rest.len() + 1)),
         }
-        Err(Unread(line.len() - self.rest.len() + 1))
     }
 }

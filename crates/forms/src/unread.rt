@@ -14,24 +14,16 @@ pub struct Unread(pub usize);
 pub(crate) fn either<F: Drop>(one: Result<F, Unread>, other: Result<F, Unread>) -> Result<F, Unread>
     ensures { said (λ f. f) result ≡ either_column (said (λ f. f) one) (said (λ f. f) other) }
 {
-    match (one, other) {
-        (Ok(form), _) => Ok(form),
-        (Err(_), Ok(form)) => Ok(form),
-        (Err(Unread(a)), Err(Unread(b))) => Err(Unread(a.max(b))),
-    }
+    one.or_else(|Unread(a)| other.map_err(|Unread(b)| Unread(a.max(b))))
 }
 
 // What was read of a line that is not too long, and past the limit the column after it.
 pub(crate) fn limited<F: Drop>(line: &[u8], read: Result<F, Unread>) -> Result<F, Unread>
     ensures { said (λ f. f) result ≡ limited_column (length line.now) (said (λ f. f) read) }
 {
-    match read {
-        Ok(form) => {
-            if line.len() <= LIMIT {
-                return Ok(form);
-            }
-            Err(Unread(LIMIT + 1))
-        }
-        Err(Unread(column)) => Err(Unread(column.min(LIMIT + 1))),
+    let form = read.map_err(|Unread(column)| Unread(column.min(LIMIT + 1)))?;
+    if line.len() > LIMIT {
+        return Err(Unread(LIMIT + 1));
     }
+    Ok(form)
 }

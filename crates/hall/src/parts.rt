@@ -34,8 +34,8 @@ pub(crate) fn parts<H: FromKey + Drop, E: FromKey + Drop>(
 ) -> Result<(Ddd<H, E>, H), KeyLength>
     ensures { held_by H.FromKey.key E.FromKey.key result ≡ keys_by H.FromKey.takes E.FromKey.takes (ends_of opening.now) }
 {
-    let hash = part(&opening.hash_key)?;
-    let expander = part(&opening.expander_key)?;
-    let header = part(&opening.header_key)?;
+    let hash = part(&opening.keys.hash)?;
+    let expander = part(&opening.keys.expander)?;
+    let header = part(&opening.keys.header)?;
     Ok((Ddd { hash, expander }, header))
 }

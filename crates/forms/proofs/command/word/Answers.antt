@@ -1,12 +1,16 @@
-use Rattle.std.proofs.Common.{sym}
-use Rattle.forms.specs.Scans.{word}
-use Rattle.forms.proofs.Rests.{bind_ok, bind-err, handed}
+use Rattle.std.proofs.Common.{Result, ap, ◌∙◌}
+use Rattle.forms.specs.Said.{asked_of}
+use Rattle.forms.specs.Taking.{taken}
+use Rattle.forms.specs.declared.command.Command.{Command}
+use Rattle.forms.specs.declared.reader.Stuck.{Stuck}
+use Rattle.forms.proofs.Reading.{within, finished, made_word}
+use Rattle.forms.proofs.Words.{lawful-literal}
 use Rattle.forms.proofs.command.word.Goals as goal
 
-pub returns-in_err-literal : goal.returns-in_err-literal
-unfolding word
-returns-in_err-literal c = handed _ _ _ _ _ c.from_residual.ensures.1 (bind-err _ _ _ _ c.in_err-literal.ensures)
+pub finish-requires : goal.finish-requires
+finish-requires c = within (lawful-literal _) (λ u. u) _ _ _ c.literal.ensures
 
 pub returns : goal.returns
-unfolding word
-returns c = sym (bind_ok _ _ _ _ _ c.in_ok-literal.ensures)
+returns c =
+    let form = ap (λ (r : Result Command Stuck). taken asked_of r c.literal.new.self.rest.now) c.and-form.ensures ∙ made_word _ _ _ _ _ c.literal.ensures in
+    finished asked_of _ _ _ _ _ c.finish.ensures form

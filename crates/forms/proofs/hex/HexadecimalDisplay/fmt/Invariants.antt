@@ -4,4 +4,4 @@ use Rattle.forms.specs.Hex.{pairs}
 use Rattle.forms.proofs.hex.HexadecimalDisplay.fmt.Given as goal
 
 abbrev pub invariant-loop-b : goal.invariant-loop-b
-invariant-loop-b g l = IsPlainFormatter l.initial.f → HasWritten g.W.Write.write_str_gives l.initial.f (pairs (take l.b-index l.bytes)) l.f
+invariant-loop-b g l = IsPlainFormatter l.initial.f → HasWritten g.W.Write.write_str_gives l.initial.f (pairs (take l.b-index l.self.0.now)) l.f

@@ -1,6 +1,7 @@
-use Rattle.std.proofs.Common.{ℕ, List, sym, refl, ap, ◌∙◌}
+use Rattle.std.proofs.Common.{List, ℕ, sym, refl, ap, ◌∙◌}
 use Rattle.std.proofs.lemmas.List.{drop_all}
 use Rattle.forms.specs.Scans.{literal}
+use Rattle.forms.proofs.Rests.{handed}
 use Rattle.forms.proofs.Turns.{literal-more, literal-stuck}
 use Rattle.forms.proofs.reader.Reader.literal.Goals as goal
 
@@ -8,10 +9,10 @@ pub loop-b-init : goal.loop-b-init
 loop-b-init c = refl
 
 pub loop-b-preserved : goal.loop-b-preserved
-loop-b-preserved c = c.loop-b.invariant ∙ literal-more _ _ _ _ c.loop-b-test.true c.if-not-eat.ensures
+loop-b-preserved c = c.loop-b.invariant ∙ literal-more _ _ _ _ c.loop-b-test.true c.in_ok-eat.ensures
 
-pub returns-then-not-eat : goal.returns-then-not-eat
-returns-then-not-eat c = literal-stuck _ _ _ _ c.loop-b-test.true c.if-not-eat.ensures ∙ sym c.loop-b.invariant
+pub returns-in_err-eat : goal.returns-in_err-eat
+returns-in_err-eat c = handed _ _ _ _ _ c.from_residual.ensures.1 (literal-stuck _ _ _ _ c.loop-b-test.true c.in_err-eat.ensures ∙ sym c.loop-b.invariant)
 
 pub returns : goal.returns
 unfolding literal

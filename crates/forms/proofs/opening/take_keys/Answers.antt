@@ -2,7 +2,7 @@ use Rattle.std.proofs.Common.{sym, ◌∙◌}
 use Rattle.forms.specs.Scans.{keys}
 use Rattle.forms.proofs.Rests.{bind_ok, bind-err, handed}
 use Rattle.forms.proofs.Words.{space, bracket}
-use Rattle.forms.proofs.opening.keys.Goals as goal
+use Rattle.forms.proofs.opening.take_keys.Goals as goal
 
 pub hex-requires : goal.hex-requires
 hex-requires c = space
