@@ -4,7 +4,7 @@ use Rattle.std.proofs.lemmas.Bool.{cond-true, le-leb}
 use Rattle.refusals.specs.declared.KeyLength.{KeyLength}
 use Rattle.forms.specs.Decoding.{decoded, placed}
 use Rattle.forms.specs.declared.hex.TooShort.{TooShort}
-use Rattle.hall.proofs.Areas.{filled-long, filled-front, decoded-fits}
+use Rattle.hall.proofs.Filling.{filled-long, filled-front, decoded-fits}
 use Rattle.from_key.specs.Taken.{wrong}
 use Rattle.hall.specs.Keys.{up_to}
 

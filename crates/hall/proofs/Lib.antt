@@ -1,4 +1,4 @@
-mod Areas
+mod Filling
 mod Fitting
 mod Keys
 mod Making

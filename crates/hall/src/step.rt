@@ -7,6 +7,7 @@ ghost use Rattle.forms.specs.Spelling.{draw as drawn, give_up, seal as sealed, r
 ghost use Rattle.hall.specs.Sessions.{Continues};
 ghost use Rattle.hall.specs.Steps.{state_of, meaning_of, closing, Obeys, Steps, Fits};
 
+use crate::areas::Areas;
 use crate::hall::Hall;
 use crate::reply::Reply;
 use ciphers::WideCipher;
@@ -108,6 +109,7 @@ impl<C: WideCipher, J: KeyedHash> Hall<C, J> {
             }
         }
     }
+
     // The work of `step`, which leaves what it likes in the first three areas.
     fn step_in(
         &mut self,
@@ -128,24 +130,25 @@ impl<C: WideCipher, J: KeyedHash> Hall<C, J> {
     }
 
     // The reply to a later line. A record or a text goes to the front of `out`; the other areas are all zero afterwards, whatever the reply.
-    pub fn step(
-        &mut self,
-        line: &[u8],
-        header: &mut [u8; 8192],
-        body: &mut [u8; 8192],
-        work: &mut [u8; 8192],
-        out: &mut [u8; 8192],
-    ) -> Reply
-        ensures steps { Steps C.WideCipher J.KeyedHash (state_of self.old) line.now 8192 8192 out.old result (state_of self.new) out.new }
-        ensures zeroed { (header.new ≡ zeros 8192) × ((body.new ≡ zeros 8192) × (work.new ≡ zeros 8192)) }
+    pub fn step(&mut self, line: &[u8], areas: &mut Areas) -> Reply
+        ensures steps { Steps C.WideCipher J.KeyedHash (state_of self.old) line.now 8192 8192 areas.old.out result (state_of self.new) areas.new.out }
+        ensures header { areas.new.header ≡ zeros 8192 }
+        ensures body { areas.new.body ≡ zeros 8192 }
+        ensures work { areas.new.work ≡ zeros 8192 }
         ensures promise { Promised (meaning_of C.WideCipher J.KeyedHash (state_of self.old).sender) }
-        ensures session { Continues C.WideCipher J.KeyedHash (state_of self.old) line.now 8192 out.old (state_of self.new) }
+        ensures session { Continues C.WideCipher J.KeyedHash (state_of self.old) line.now 8192 areas.old.out (state_of self.new) }
     {
         self.sender.promise();
-        let header = Work(header);
-        let body = Work(body);
-        let work = Work(work);
-        self.step_in(line, &mut *header.0, &mut *body.0, &mut *work.0, out)
+        let header = Work(&mut areas.header);
+        let body = Work(&mut areas.body);
+        let work = Work(&mut areas.work);
+        self.step_in(
+            line,
+            &mut *header.0,
+            &mut *body.0,
+            &mut *work.0,
+            &mut areas.out,
+        )
     }
 }
 

@@ -1,5 +1,5 @@
 use Rattle.forms.specs.Said.{bytes_of}
-use Rattle.hall.proofs.Areas.{filled_within, filled-front}
+use Rattle.hall.proofs.Filling.{filled_within, filled-front}
 use Rattle.hall.proofs.step.fill.Goals as goal
 
 pub returns : goal.returns
