@@ -7,5 +7,4 @@ use Rattle.ends.specs.declared.window.Marks.{Marks}
 pub judged-once : (w : Marks) (n k : ℕ) (x : Unit {0}) (f : WindowFault) → n ≡ k → Ok x ≡ judging w k → Err f ≡ judging w n → ⊥
 judged-once w n k x f e a b =
     let c : ◌≡◌ {A = Result (Unit {0}) WindowFault} (Ok x) (Err f) = a ∙ ap (judging w) (sym e) ∙ sym b in
-    let z : ◌≡◌ {A = ℕ} 0 1 = cc in
-    omega arith
+    cc
