@@ -1,5 +1,5 @@
 -- A number is judged once the same way.
-use Rattle.std.proofs.Common.{◌≡◌, ℕ, Ok, Err, Result, sym, ap, ◌∙◌, arith}
+use Rattle.std.proofs.Common.{◌≡◌, ℕ, Ok, Err, Result, sym, ap, ◌∙◌}
 use Rattle.ends.specs.Window.{judging}
 use Rattle.ends.specs.declared.fault.WindowFault.{WindowFault}
 use Rattle.ends.specs.declared.window.Marks.{Marks}

@@ -1,8 +1,9 @@
 -- What is kept of a receiver over a run.
-use Rattle.std.proofs.Common.{◌≡◌, ℕ, ◌+◌, ◌-◌, ◌/◌, ◌^◌, ◌<◌, ◌≤◌, Bool, true, false, cond, eqb, ltb, leb, ◌⊎◌, List, [], ◌∷◌, length, take, Some, None, Ok, Err, Option, Result, sym, refl, ap, ◌∙◌, subst, ap₂, inl, inr, ⊎_elim, arith}
+use Rattle.std.proofs.Common.{◌≡◌, ℕ, ◌+◌, ◌-◌, ◌/◌, ◌^◌, ◌<◌, ◌≤◌, true, false, eqb, ltb, leb, ◌⊎◌, List, [], ◌∷◌, length, take, Some, None, Ok, Err, Option, Result, sym, refl, ap, ◌∙◌, subst, ap₂, inl, inr, ⊎_elim, arith}
 use native.Mathlib.Nat.{zero-div}
 use Rattle.octets.specs.Strings.{Bytes, same}
 use Rattle.std.proofs.lemmas.Bool.{both_ways, cases_Bool, cases_lt, eq-eqb, eqb-true, leb-false, le-ltb, lt-leb, or_cases, or_left, or_right}
+use Rattle.sealing.proofs.Examined.{unless-ok}
 use Rattle.sealing.proofs.Sealings.{exactly, only, opened-number, tagged-by}
 use Rattle.sealing.specs.Calls.{examining, opening, placed, plain, text_of}
 use Rattle.sealing.specs.Exactly.{LawfulSizes}
@@ -25,15 +26,11 @@ use Rattle.ends.specs.declared.window.Marks.{Marks}
 abbrev pub Fresh : Marks → ℕ → Type 0
 Fresh w n = (w.highest < n + 64) × (accepted w n ≡ true → ⊥)
 
-unrefused : {T E : Type 0} (b : Bool) (f : E) (r : Result T E) (x : T) → Ok x ≡ cond b (Err f) r → (b ≡ false) × (Ok x ≡ r)
-unrefused true f r x e = absurd cc
-unrefused false f r x e = (refl, e)
-
 judged-fresh : (w : Marks) (n : ℕ) (x : Unit {0}) → Ok x ≡ judging w n → Fresh w n
 judged-fresh w n x e =
-    let a = unrefused (ltb n 1) (AcceptedEarlier n) _ x e in
-    let b = unrefused (leb (n + 64) w.highest) (TooOld w.highest) _ x a.1 in
-    let c = unrefused (accepted w n) (AcceptedEarlier n) _ x b.1 in
+    let a = unless-ok (ltb n 1) (AcceptedEarlier n) _ x e in
+    let b = unless-ok (leb (n + 64) w.highest) (TooOld w.highest) _ x a.1 in
+    let c = unless-ok (accepted w n) (AcceptedEarlier n) _ x b.1 in
     (leb-false (n + 64) w.highest b.0, both_ways (accepted w n) c.0)
 
 fresh-judged : (w : Marks) (n : ℕ) → 1 ≤ n → Fresh w n → judging w n ≡ Ok tt

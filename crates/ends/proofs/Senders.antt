@@ -2,6 +2,7 @@
 use Rattle.std.proofs.Common.{◌≡◌, ℕ, zero, suc, ◌+◌, ◌^◌, ◌≤◌, Bool, true, false, cond, eqb, ltb, List, [], ◌∷◌, length, Some, None, Ok, Err, Option, Result, sym, refl, ap, ◌∙◌, subst, arith}
 use Rattle.std.proofs.lemmas.Bool.{cond_both, eqb-true, ltb-false}
 use Rattle.std.specs.Option.{option_to_list}
+use Rattle.sealing.proofs.Examined.{unless-ok}
 use Rattle.sealing.proofs.Sealings.{fitting-seals}
 use Rattle.sealing.specs.Calls.{fitting}
 use Rattle.sealing.specs.Meaning.{Meaning, Lawful}
@@ -29,13 +30,12 @@ once-ups first (suc k) n =
     (λ e. let z = eqb-true n (first + k) e in omega (arith, none-past first k n (omega arith))) (λ e. omega (arith, once-ups first k n))
 
 -- what an answer that is not refused says of the counting before
-drew-none : (b : Bool) (next : ℕ) (t : Ticket) → ltb (2 ^ 40) next ≡ b → ◌≡◌ {A = Result Ticket SenderFault} (Ok t) (cond b (Err UsedUp) (Ok (record { number = next }))) → (t.number ≡ next) × (next ≤ 2 ^ 40)
-drew-none true next t p q = absurd cc
-drew-none false next t p q = (let z : t ≡ record { number = next } = cc in (ap (λ (x : Ticket). x.number) z, ltb-false (2 ^ 40) next p))
-
 drew : (o : Option ℕ) (next : ℕ) (t : Ticket) → Ok t ≡ drawing_at o next → (o ≡ None) × (t.number ≡ next) × (next ≤ 2 ^ 40)
 drew (Some n) next t e = absurd cc
-drew None next t e = let d = drew-none (ltb (2 ^ 40) next) next t refl e in (refl, d.0, d.1)
+drew None next t e =
+    let u = unless-ok (ltb (2 ^ 40) next) UsedUp (Ok (record { number = next })) t e in
+    let z : t ≡ record { number = next } = cc in
+    (refl, ap (λ (x : Ticket). x.number) z, ltb-false (2 ^ 40) next u.0)
 
 was-out : (o : Option ℕ) (n : ℕ) → is_out o n ≡ true → o ≡ Some n
 was-out None n e = absurd cc

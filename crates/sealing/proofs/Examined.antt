@@ -1,10 +1,10 @@
 -- What a record that was examined is like.
-use Rattle.std.proofs.Common.{◌≡◌, ℕ, ◌+◌, ◌-◌, ◌^◌, ◌≤◌, Bool, true, false, List, length, Ok, Err, Option, Result, refl, arith}
+use Rattle.std.proofs.Common.{◌≡◌, ℕ, ◌+◌, ◌-◌, ◌^◌, ◌≤◌, Bool, true, false, cond, List, length, Ok, Err, Option, Result, refl, arith}
 use Rattle.std.proofs.lemmas.Bool.{ltb-false, le-ltb}
 use Rattle.ciphers.proofs.Verdicts.{within, admitted}
 use Rattle.ciphers.specs.declared.fault.CipherFault.{CipherFault}
 use Rattle.expanders.specs.declared.fault.PastReach.{PastReach}
-use Rattle.sealing.specs.Calls.{unless, admitting, then_numbered, number_of, examining}
+use Rattle.sealing.specs.Calls.{admitting, then_numbered, number_of, examining}
 use Rattle.sealing.specs.declared.fault.SealingFault.{SealingFault}
 
 pub record Examined (lowest highest header : ℕ) (r : List ℕ) (work text n : ℕ) : Type 0 where
@@ -19,7 +19,7 @@ pub record Examined (lowest highest header : ℕ) (r : List ℕ) (work text n : 
   pub last : n ≤ 2 ^ 40
 
 -- an answer that is not refused passed each test
-pub unless-ok : {T : Type 0} (b : Bool) (f : SealingFault) (r : Result T SealingFault) (x : T) → Ok x ≡ unless b f r → (b ≡ false) × (Ok x ≡ r)
+pub unless-ok : {T E : Type 0} (b : Bool) (f : E) (r : Result T E) (x : T) → Ok x ≡ cond b (Err f) r → (b ≡ false) × (Ok x ≡ r)
 unless-ok true f r x e = absurd cc
 unless-ok false f r x e = (refl, e)
 
