@@ -1,8 +1,9 @@
 -- What is kept of a receiver over a run.
-use Rattle.std.proofs.Common.{◌≡◌, ℕ, ◌+◌, ◌-◌, ◌/◌, ◌^◌, ◌<◌, ◌≤◌, Bool, true, false, cond, eqb, ltb, leb, ◌⊎◌, List, [], ◌∷◌, length, take, Some, None, Ok, Err, Option, Result, sym, refl, ap, ◌∙◌, subst, ap₂, inl, inr, ⊎_elim, arith}
+use Rattle.std.proofs.Common.{◌≡◌, ℕ, ◌+◌, ◌-◌, ◌/◌, ◌^◌, ◌<◌, ◌≤◌, true, false, eqb, ltb, leb, ◌⊎◌, List, [], ◌∷◌, length, take, Some, None, Ok, Err, Option, Result, sym, refl, ap, ◌∙◌, subst, ap₂, inl, inr, ⊎_elim, arith}
 use native.Mathlib.Nat.{zero-div}
 use Rattle.octets.specs.Strings.{Bytes, same}
 use Rattle.std.proofs.lemmas.Bool.{both_ways, cases_Bool, cases_lt, eq-eqb, eqb-true, leb-false, le-ltb, lt-leb, or_cases, or_left, or_right}
+use Rattle.sealing.proofs.Examined.{unless-ok}
 use Rattle.sealing.proofs.Sealings.{exactly, only, opened-number, tagged-by}
 use Rattle.sealing.specs.Calls.{examining, opening, placed, plain, text_of}
 use Rattle.sealing.specs.Exactly.{LawfulSizes}
@@ -25,15 +26,11 @@ use Rattle.ends.specs.declared.window.Marks.{Marks}
 abbrev pub Fresh : Marks → ℕ → Type 0
 Fresh w n = (w.highest < n + 64) × (accepted w n ≡ true → ⊥)
 
-unrefused : {T E : Type 0} (b : Bool) (f : E) (r : Result T E) (x : T) → Ok x ≡ cond b (Err f) r → (b ≡ false) × (Ok x ≡ r)
-unrefused true f r x e = absurd (let z : ◌≡◌ {A = ℕ} 0 1 = cc in omega arith)
-unrefused false f r x e = (refl, e)
-
 judged-fresh : (w : Marks) (n : ℕ) (x : Unit {0}) → Ok x ≡ judging w n → Fresh w n
 judged-fresh w n x e =
-    let a = unrefused (ltb n 1) (AcceptedEarlier n) _ x e in
-    let b = unrefused (leb (n + 64) w.highest) (TooOld w.highest) _ x a.1 in
-    let c = unrefused (accepted w n) (AcceptedEarlier n) _ x b.1 in
+    let a = unless-ok (ltb n 1) (AcceptedEarlier n) _ x e in
+    let b = unless-ok (leb (n + 64) w.highest) (TooOld w.highest) _ x a.1 in
+    let c = unless-ok (accepted w n) (AcceptedEarlier n) _ x b.1 in
     (leb-false (n + 64) w.highest b.0, both_ways (accepted w n) c.0)
 
 fresh-judged : (w : Marks) (n : ℕ) → 1 ≤ n → Fresh w n → judging w n ≡ Ok tt
@@ -43,16 +40,16 @@ fresh-judged w n one (near, new) =
 
 -- what a receipt that was not refused passed
 passed : (w : Marks) (v : Result ℕ SealingFault) (next : Result Opened SealingFault) (o : Opened) → Ok o ≡ examined_by w v next → (n : ℕ) × (Ok n ≡ v) × (Ok tt ≡ judging w n) × (Ok o ≡ next)
-passed w (Err f) next o e = absurd (let z : ◌≡◌ {A = ℕ} 0 1 = cc in omega arith)
+passed w (Err f) next o e = absurd cc
 passed w (Ok n) next o e = by (judging w n) refl e
   where
     by : (j : Result (Unit {0}) WindowFault) → judging w n ≡ j → ◌≡◌ {A = Result Opened ReceiverFault} (Ok o) (windowed j next) → (k : ℕ) × (◌≡◌ {A = Result ℕ SealingFault} (Ok k) (Ok n)) × (◌≡◌ {A = Result (Unit {0}) WindowFault} (Ok tt) (judging w k)) × (◌≡◌ {A = Result Opened SealingFault} (Ok o) next)
-    by (Err f) p q = absurd (let z : ◌≡◌ {A = ℕ} 0 1 = cc in omega arith)
+    by (Err f) p q = absurd cc
     by (Ok u) p q = (n, refl, sym p, open_next next q)
       where
         open_next : (s : Result Opened SealingFault) → ◌≡◌ {A = Result Opened ReceiverFault} (Ok o) (opened s) → ◌≡◌ {A = Result Opened SealingFault} (Ok o) s
         open_next (Ok o') t = let z : o ≡ o' = cc in ap (λ (y : Opened). Ok y) z
-        open_next (Err f) t = absurd (let z : ◌≡◌ {A = ℕ} 0 1 = cc in omega arith)
+        open_next (Err f) t = absurd cc
 
 passes : (w : Marks) (v : Result ℕ SealingFault) (next : Result Opened SealingFault) (n : ℕ) (o : Opened) → v ≡ Ok n → judging w n ≡ Ok tt → next ≡ Ok o → examined_by w v next ≡ Ok o
 passes w v next n o a b c = rw (a, b, c) refl
@@ -86,8 +83,7 @@ module _ (m m₁ : Meaning) (law : Lawful m) (law₁ : Lawful m₁) (mean : Same
           let j = fresh-judged w n is.first fr in
           let ans : receiving m₁ w h r k (length x) ≡ Ok (record { number = n; length = length y }) = passes w (examining m₁.lowest m₁.highest m₁.carried (length h) r k (length x)) (opening m₁ h r k (length x)) n _ (sym t.1) j ok in
           let c : ◌≡◌ {A = Result Opened ReceiverFault} (Err f) (Ok (record { number = n; length = length y })) = s.answer ∙ ans in
-          let z : ◌≡◌ {A = ℕ} 0 1 = cc in
-          omega arith
+          cc
 
 -- how a window stands to the numbers handed out
 pub record Stands (w : Marks) (ns : List ℕ) : Type 0 where
@@ -126,7 +122,7 @@ module _ (m : Meaning) where
   module _ (law : Lawful m) where
     pub due : (w w' : Marks) (e : Receipt) (es : List Receipt) (a : Option (ℕ × List ℕ)) → Bytes e.header → Stands w (numbers (handed_by es)) → Outcome m w e w' a → (n : ℕ) (x : List ℕ) → (a ≡ Some (n, x) → Due m e es n x) × (Due m e es n x → a ≡ Some (n, x))
     due w w' e es None hb i (same, never) n x = (
-      (λ q. let z : ◌≡◌ {A = ℕ} 0 1 = cc in absurd (omega arith)),
+      (λ q. absurd cc),
       (λ d. absurd (never d.sizes n x d.sealing (⊎_elim (λ (z : w.highest ≡ 0). let o : w.highest < n + 64 = omega arith in o) (λ (z : In w.highest (numbers (handed_by es))). d.recent w.highest z) i.top, λ a. d.new (i.marked n a)))),
     )
     due w w' e es (Some p) hb i (sizes, sealing, fr, acc) n x = (

@@ -2,6 +2,7 @@
 use Rattle.std.proofs.Common.{◌≡◌, ℕ, zero, suc, ◌+◌, ◌^◌, ◌≤◌, Bool, true, false, cond, eqb, ltb, List, [], ◌∷◌, length, Some, None, Ok, Err, Option, Result, sym, refl, ap, ◌∙◌, subst, arith}
 use Rattle.std.proofs.lemmas.Bool.{cond_both, eqb-true, ltb-false}
 use Rattle.std.specs.Option.{option_to_list}
+use Rattle.sealing.proofs.Examined.{unless-ok}
 use Rattle.sealing.proofs.Sealings.{fitting-seals}
 use Rattle.sealing.specs.Calls.{fitting}
 use Rattle.sealing.specs.Meaning.{Meaning, Lawful}
@@ -29,25 +30,24 @@ once-ups first (suc k) n =
     (λ e. let z = eqb-true n (first + k) e in omega (arith, none-past first k n (omega arith))) (λ e. omega (arith, once-ups first k n))
 
 -- what an answer that is not refused says of the counting before
-drew-none : (b : Bool) (next : ℕ) (t : Ticket) → ltb (2 ^ 40) next ≡ b → ◌≡◌ {A = Result Ticket SenderFault} (Ok t) (cond b (Err UsedUp) (Ok (record { number = next }))) → (t.number ≡ next) × (next ≤ 2 ^ 40)
-drew-none true next t p q = absurd (let z : ◌≡◌ {A = ℕ} 0 1 = cc in omega arith)
-drew-none false next t p q = (let z : t ≡ record { number = next } = cc in (ap (λ (x : Ticket). x.number) z, ltb-false (2 ^ 40) next p))
-
 drew : (o : Option ℕ) (next : ℕ) (t : Ticket) → Ok t ≡ drawing_at o next → (o ≡ None) × (t.number ≡ next) × (next ≤ 2 ^ 40)
-drew (Some n) next t e = absurd (let z : ◌≡◌ {A = ℕ} 0 1 = cc in omega arith)
-drew None next t e = let d = drew-none (ltb (2 ^ 40) next) next t refl e in (refl, d.0, d.1)
+drew (Some n) next t e = absurd cc
+drew None next t e =
+    let u = unless-ok (ltb (2 ^ 40) next) UsedUp (Ok (record { number = next })) t e in
+    let z : t ≡ record { number = next } = cc in
+    (refl, ap (λ (x : Ticket). x.number) z, ltb-false (2 ^ 40) next u.0)
 
 was-out : (o : Option ℕ) (n : ℕ) → is_out o n ≡ true → o ≡ Some n
-was-out None n e = absurd (let z : ◌≡◌ {A = ℕ} 0 1 = cc in omega arith)
+was-out None n e = absurd cc
 was-out (Some k) n e = ap (λ (x : ℕ). Some x) (eqb-true k n e)
 
 spent : (b : Bool) (t : Ticket) (next : Result ℕ Returned) (k : ℕ) → Ok k ≡ cond b next (Err (wrong_ticket t)) → (b ≡ true) × (Ok k ≡ next)
 spent true t next k e = (refl, e)
-spent false t next k e = absurd (let z : ◌≡◌ {A = ℕ} 0 1 = cc in omega arith)
+spent false t next k e = absurd cc
 
 fitted : (t : Ticket) (v : Result ℕ SealingFault) (k : ℕ) → Ok k ≡ handed_back t v → Ok k ≡ v
 fitted t (Ok j) k e = let z : k ≡ j = cc in ap (λ (x : ℕ). Ok x) z
-fitted t (Err f) k e = absurd (let z : ◌≡◌ {A = ℕ} 0 1 = cc in omega arith)
+fitted t (Err f) k e = absurd cc
 
 pub record Counted (m : Meaning) (first : ℕ) (es : List Event) (c : Counts) : Type 0 where
   pub positive : 1 ≤ first
@@ -98,8 +98,7 @@ module _ (m : Meaning) (law : Lawful m) (first : ℕ) where
   unspent : (c c' : Counts) (n : ℕ) → c' ≡ record { next = c.next; outstanding = None } → c'.outstanding ≡ Some n → ⊥
   unspent c c' n after o =
       let none : c'.outstanding ≡ None = ap (λ (x : Counts). x.outstanding) after in
-      let z : ◌≡◌ {A = ℕ} 0 1 = cc in
-      omega arith
+      cc
 
   sealed-more : (es : List Event) (c c' : Counts) (t : Ticket) (header text area area' : List ℕ) (a : Result ℕ Returned) → Counted m first es c → Seals m c t header text area area' a c' → Counted m first (seals t header text area area' a ∷ es) c'
   sealed-more es c c' t header text area area' (Ok k) i s =
@@ -154,7 +153,7 @@ module _ (m : Meaning) (law : Lawful m) (first : ℕ) where
     next = omega arith;
     upwards = refl;
     places = λ n. refl;
-    bounded = λ n o. absurd (let z : ◌≡◌ {A = ℕ} 0 1 = cc in omega arith);
+    bounded = λ n o. absurd cc;
     sealings = tt;
   })
   counted m₁ m₂ (draws a ∷ es) w' (w, run, s) = drawn-more es w.sender w'.sender a (counted m₁ m₂ es w run) s.0

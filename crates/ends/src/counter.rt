@@ -14,5 +14,6 @@ pub struct Counter {
     pub(crate) counts: Counts,
     ghost positive: { 1 ≤ counts.next },
     ghost bounded: { counts.next ≤ 2 ^ 40 + 1 },
-    ghost drawn: { ((n : ℕ) → counts.outstanding ≡ Some n → (1 ≤ n) × (n + 1 ≡ counts.next)) },
+    ghost numbered: { ((n : ℕ) → counts.outstanding ≡ Some n → 1 ≤ n) },
+    ghost drawn: { ((n : ℕ) → counts.outstanding ≡ Some n → n + 1 ≡ counts.next) },
 }

@@ -1,10 +1,10 @@
 -- What a record that was examined is like.
-use Rattle.std.proofs.Common.{◌≡◌, ℕ, ◌+◌, ◌-◌, ◌^◌, ◌≤◌, Bool, true, false, List, length, Ok, Err, Option, Result, refl, arith}
+use Rattle.std.proofs.Common.{◌≡◌, ℕ, ◌+◌, ◌-◌, ◌^◌, ◌≤◌, Bool, true, false, cond, List, length, Ok, Err, Option, Result, refl, arith}
 use Rattle.std.proofs.lemmas.Bool.{ltb-false, le-ltb}
 use Rattle.ciphers.proofs.Verdicts.{within, admitted}
 use Rattle.ciphers.specs.declared.fault.CipherFault.{CipherFault}
 use Rattle.expanders.specs.declared.fault.PastReach.{PastReach}
-use Rattle.sealing.specs.Calls.{unless, admitting, then_numbered, number_of, examining}
+use Rattle.sealing.specs.Calls.{admitting, then_numbered, number_of, examining}
 use Rattle.sealing.specs.declared.fault.SealingFault.{SealingFault}
 
 pub record Examined (lowest highest header : ℕ) (r : List ℕ) (work text n : ℕ) : Type 0 where
@@ -19,20 +19,20 @@ pub record Examined (lowest highest header : ℕ) (r : List ℕ) (work text n : 
   pub last : n ≤ 2 ^ 40
 
 -- an answer that is not refused passed each test
-pub unless-ok : {T : Type 0} (b : Bool) (f : SealingFault) (r : Result T SealingFault) (x : T) → Ok x ≡ unless b f r → (b ≡ false) × (Ok x ≡ r)
-unless-ok true f r x e = absurd (let z : ◌≡◌ {A = ℕ} 0 1 = cc in omega arith)
+pub unless-ok : {T E : Type 0} (b : Bool) (f : E) (r : Result T E) (x : T) → Ok x ≡ cond b (Err f) r → (b ≡ false) × (Ok x ≡ r)
+unless-ok true f r x e = absurd cc
 unless-ok false f r x e = (refl, e)
 
 pub admitting-ok : {T : Type 0} (v : Result (Unit {0}) CipherFault) (r : Result T SealingFault) (x : T) → Ok x ≡ admitting v r → (Ok tt ≡ v) × (Ok x ≡ r)
 admitting-ok (Ok u) r x e = (refl, e)
-admitting-ok (Err f) r x e = absurd (let z : ◌≡◌ {A = ℕ} 0 1 = cc in omega arith)
+admitting-ok (Err f) r x e = absurd cc
 
 pub numbered-ok : (n : ℕ) (v : Result ℕ SealingFault) (k : ℕ) → Ok k ≡ then_numbered n v → (Ok k ≡ v) × (1 ≤ n) × (n ≤ 2 ^ 40)
 numbered-ok n (Ok j) k e =
     let u = unless-ok _ _ _ _ e in
     let v = unless-ok _ _ _ _ u.1 in
     (v.1, ltb-false n 1 u.0, ltb-false (2 ^ 40) n v.0)
-numbered-ok n (Err f) k e = absurd (let z : ◌≡◌ {A = ℕ} 0 1 = cc in omega arith)
+numbered-ok n (Err f) k e = absurd cc
 
 pub same-value : (m n : ℕ) → ◌≡◌ {A = Result ℕ SealingFault} (Ok m) (Ok n) → m ≡ n
 same-value m n e = cc

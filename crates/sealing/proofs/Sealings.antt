@@ -18,8 +18,8 @@ use Rattle.sealing.specs.declared.plain_open.Opened.{Opened}
 -- what a record was found to be, where it was not refused
 pub tagged-by : (r : List ℕ) (b : Bool) (v : Result ℕ SealingFault) (o : Opened) → tagged b r v ≡ Ok o → (b ≡ true) × (Ok o.number ≡ v) × (o.length ≡ length r - 24)
 tagged-by r true (Ok n) o e = (refl, cc, cc)
-tagged-by r false (Ok n) o e = absurd (let z : ◌≡◌ {A = ℕ} 0 1 = cc in omega arith)
-tagged-by r b (Err f) o e = absurd (let z : ◌≡◌ {A = ℕ} 0 1 = cc in omega arith)
+tagged-by r false (Ok n) o e = absurd cc
+tagged-by r b (Err f) o e = absurd cc
 
 module _ (m : Meaning) (law : Lawful m) (header r : List ℕ) (hb : Bytes header) where
   tag-bytes : Bytes (m.line ++ header)

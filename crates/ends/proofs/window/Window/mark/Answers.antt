@@ -1,7 +1,8 @@
 use Rattle.std.proofs.Common.{◌≡◌, ℕ, ◌-◌, ◌*◌, ◌%◌, ◌^◌, ◌≤◌, sym, subst, arith}
 use lib.Bits.{bit_or}
 use Rattle.std.proofs.lemmas.Nat.{one_shl}
-use Rattle.ends.proofs.Marking.{Shifted, Joins, at, bit, shifted, none_left, ahead, behind, ahead-keeps, behind-keeps, joins-accepts}
+use Rattle.std.specs.Int.{bit_at}
+use Rattle.ends.proofs.Marking.{Shifted, Joins, at, shifted, none_left, ahead, behind, ahead-keeps, behind-keeps, joins-accepts}
 use Rattle.ends.proofs.window.Window.mark.Goals as goal
 use Rattle.ends.proofs.window.Window.mark.Goals.{then-ahead-lt64, else-ahead-lt64}
 
@@ -25,7 +26,7 @@ invariant_of-self-else-number-highest c =
     let e : (1 * 2 ^ (s.highest - n)) % 2 ^ 64 ≡ 2 ^ (s.highest - n) = one_shl (s.highest - n) 64 (omega arith) in
     let k = behind-keeps s.highest s.marks n c.requires.first c.if-number-highest.false (c.args.self.now.topped (omega arith)) c.args.self.now.above in
     let Topped : ℕ → Type 0 = λ x. 1 ≤ s.highest → bit_or s.marks x % 2 ≡ 1 in
-    let Above : ℕ → Type 0 = λ x. (i : ℕ) → s.highest ≤ i → bit (bit_or s.marks x) i ≡ 0 in
+    let Above : ℕ → Type 0 = λ x. (i : ℕ) → s.highest ≤ i → bit_at (bit_or s.marks x) i ≡ 0 in
     record { topped = subst Topped (sym e) (λ one. k.0); above = subst Above (sym e) k.1 }
 
 pub returns-after-ahead-lt64 : goal.returns-after-ahead-lt64
