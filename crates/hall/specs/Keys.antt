@@ -26,11 +26,15 @@ pub record Keys : Type 0 where
   pub expander : List ℕ
   pub header : List ℕ
 
+-- the keys that the parts of an end hold, as `hash` and `expander` read them
+abbrev pub keys_in : {H E : Type 0} → (H → List ℕ) → (E → List ℕ) → Ddd H E → H → Keys
+keys_in hash expander c j = record { hash = hash c.hash; expander = expander c.expander; header = hash j }
+
 abbrev pub keys_a : CipherA → Polyval → Keys
-keys_a c j = record { hash = polyval_key c.hash; expander = key_of c.expander.key; header = polyval_key j }
+keys_a c j = keys_in (λ h. polyval_key h) (λ e. key_of e.key) c j
 
 abbrev pub keys_b : CipherB → Cmac → Keys
-keys_b c j = record { hash = cmac_key c.hash; expander = c.expander.key; header = cmac_key j }
+keys_b c j = keys_in (λ h. cmac_key h) (λ e. e.key) c j
 
 -- the length of a key of at most n bytes
 abbrev pub up_to : ℕ → List ℕ → Result ℕ KeyLength
@@ -66,18 +70,6 @@ keys_by hash expander o =
     Ok (record { hash = h; expander = e; header = j }))))
 
 -- the keys that parts hold
-abbrev pub held_a : Result (CipherA × Polyval) KeyLength → Result Keys KeyLength
-held_a (Ok p) = Ok (keys_a p.0 p.1)
-held_a (Err e) = Err e
-
-abbrev pub held_b : Result (CipherB × Cmac) KeyLength → Result Keys KeyLength
-held_b (Ok p) = Ok (keys_b p.0 p.1)
-held_b (Err e) = Err e
-
--- the keys that the parts of an end hold
-abbrev pub keys_in : {H E : Type 0} → (H → List ℕ) → (E → List ℕ) → Ddd H E → H → Keys
-keys_in hash expander c j = record { hash = hash c.hash; expander = expander c.expander; header = hash j }
-
 abbrev pub held_by : {H E : Type 0} → (H → List ℕ) → (E → List ℕ) → Result (Ddd H E × H) KeyLength → Result Keys KeyLength
 held_by hash expander (Ok p) = Ok (keys_in hash expander p.0 p.1)
 held_by hash expander (Err e) = Err e

@@ -76,14 +76,6 @@ abbrev pub stood : {C J : Type 0} → Result (Hall C J) SenderFault → Result (
 stood (Ok h) = Ok (state_of h)
 stood (Err f) = Err f
 
-abbrev pub seen_a : Result (Hall CipherA Polyval) Refusal → Result Made Refusal
-seen_a (Ok h) = Ok (made_of pile.A keys_a (state_of h))
-seen_a (Err f) = Err f
-
-abbrev pub seen_b : Result (Hall CipherB Cmac) Refusal → Result Made Refusal
-seen_b (Ok h) = Ok (made_of pile.B keys_b (state_of h))
-seen_b (Err f) = Err f
-
 abbrev pub seen_as : {C J : Type 0} → Pile → (C → J → Keys) → Result (Hall C J) Refusal → Result Made Refusal
 seen_as p keys (Ok h) = Ok (made_of p keys (state_of h))
 seen_as p keys (Err f) = Err f
