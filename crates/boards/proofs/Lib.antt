@@ -1,1 +1,2 @@
+pub mod Dispatch
 mod Received

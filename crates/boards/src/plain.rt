@@ -12,6 +12,7 @@ use crate::line::AnyLine;
 use sealing::{Opened, SealingFault, Work};
 
 impl AnyLine {
+    #[tactic(auto, using(crate::proofs::Dispatch::same_line))]
     fn seal(
         &self,
         number: u64,

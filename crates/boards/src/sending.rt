@@ -99,6 +99,7 @@ impl SenderState {
 }
 
 impl AnyLine {
+    #[tactic(auto, using(crate::proofs::Dispatch::same_line))]
     fn seal_with(
         &self,
         state: &mut SenderState,
