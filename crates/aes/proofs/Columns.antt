@@ -1,10 +1,10 @@
 -- Columns as words: their bytes.
-use Rattle.std.proofs.Common.{◌≡◌, ℕ, List, [], ◌∷◌, sym, refl, ap, ◌∙◌, subst, ap₂}
+use Rattle.std.proofs.Common.{◌≡◌, ℕ, List, [], ◌∷◌, refl, ap, ◌∙◌, ap₂}
 use lib.Bits.{bit_xor, xor_assoc, xor_comm}
 use Rattle.aes_tables.specs.Field.{sbox, mul}
 use Rattle.aes_tables.proofs.Bounds.{mul-lt, sbox-lt}
 use Rattle.aes.specs.Cipher.{byte}
-use Rattle.aes.specs.Columns.{HasBytes, IsMixed, bytes_of, sub_column, t}
+use Rattle.aes.specs.Columns.{HasBytes, IsMixed, IsMixedSub, bytes_of, sub_column, mix_column, t}
 use Rattle.aes.proofs.Words.{byte-xor, word_bytes}
 
 cons : {x y : ℕ} {xs ys : List ℕ} → x ≡ y → xs ≡ ys → ◌≡◌ {A = List ℕ} (x ∷ xs) (y ∷ ys)
@@ -31,17 +31,16 @@ xor_bytes v w p q =
     }
 
 -- a column after SubBytes
-pub sub-bytes : (w a b c d : ℕ) → w ≡ sub_column a b c d → HasBytes w (sbox (byte 0 a)) (sbox (byte 1 b)) (sbox (byte 2 c)) (sbox (byte 3 d))
+pub sub-bytes : (a b c d : ℕ) → HasBytes (sub_column a b c d) (sbox (byte 0 a)) (sbox (byte 1 b)) (sbox (byte 2 c)) (sbox (byte 3 d))
 unfolding sub_column
-sub-bytes w a b c d e =
-    subst (λ (x : ℕ). HasBytes x (sbox (byte 0 a)) (sbox (byte 1 b)) (sbox (byte 2 c)) (sbox (byte 3 d))) (sym e)
-    (word_bytes (sbox (byte 0 a)) (sbox (byte 1 b)) (sbox (byte 2 c)) (sbox (byte 3 d)) (sbox-lt (byte 0 a)) (sbox-lt (byte 1 b)) (sbox-lt (byte 2 c)) (sbox-lt (byte 3 d)))
+sub-bytes a b c d =
+    word_bytes (sbox (byte 0 a)) (sbox (byte 1 b)) (sbox (byte 2 c)) (sbox (byte 3 d)) (sbox-lt (byte 0 a)) (sbox-lt (byte 1 b)) (sbox-lt (byte 2 c)) (sbox-lt (byte 3 d))
 
 -- the first of four summands goes to the end
 turn : (a b c d : ℕ) → bit_xor (bit_xor (bit_xor a b) c) d ≡ bit_xor (bit_xor (bit_xor b c) d) a
 turn a b c d = ap (λ (x : ℕ). bit_xor x d) (xor_assoc a b c) ∙ xor_assoc a (bit_xor b c) d ∙ xor_comm a (bit_xor (bit_xor b c) d)
 
--- a column after SubBytes and MixColumns, from the bytes of its four rows
+-- the same from the bytes of its four rows
 module _ (a b c d : ℕ) where
   -- the summands in the order of the rows
   sums : HasBytes (bit_xor (bit_xor (bit_xor (t 0 a) (t 1 b)) (t 2 c)) (t 3 d))
@@ -63,16 +62,20 @@ module _ (a b c d : ℕ) where
       (word_bytes r (mul 3 r) (mul 2 r) r (sbox-lt c) (mul-lt 3 r (sbox-lt c)) (mul-lt 2 r (sbox-lt c)) (sbox-lt c)))
       (word_bytes s s (mul 3 s) (mul 2 s) (sbox-lt d) (sbox-lt d) (mul-lt 3 s (sbox-lt d)) (mul-lt 2 s (sbox-lt d)))
 
-  pub mixed-bytes : (w x y z : ℕ) → w ≡ t 0 a → x ≡ t 1 b → y ≡ t 2 c → z ≡ t 3 d
-      → IsMixed (bit_xor (bit_xor (bit_xor w x) y) z) (sbox a) (sbox b) (sbox c) (sbox d)
-  mixed-bytes w x y z ew ex ey ez =
+  mixed : IsMixed (bit_xor (bit_xor (bit_xor (t 0 a) (t 1 b)) (t 2 c)) (t 3 d)) (sbox a) (sbox b) (sbox c) (sbox d)
+  mixed =
       let p = sbox a in
       let q = sbox b in
       let r = sbox c in
       let s = sbox d in
-      rw (ew, ex, ey, ez) record {
+      record {
         b0 = sums.b0;
         b1 = sums.b1 ∙ turn p (mul 2 q) (mul 3 r) s;
         b2 = sums.b2 ∙ turn p q (mul 2 r) (mul 3 s) ∙ turn q (mul 2 r) (mul 3 s) p;
         b3 = sums.b3 ∙ turn (mul 3 p) q r (mul 2 s) ∙ turn q r (mul 2 s) (mul 3 p) ∙ turn r (mul 2 s) (mul 3 p) q;
       }
+
+-- a column after SubBytes and MixColumns
+pub mixed-bytes : (a b c d : ℕ) → IsMixedSub (mix_column a b c d) a b c d
+unfolding mix_column
+mixed-bytes a b c d = mixed (byte 0 a) (byte 1 b) (byte 2 c) (byte 3 d)

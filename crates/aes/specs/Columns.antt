@@ -1,5 +1,5 @@
 -- A state held as four words, one to a column.
-use Rattle.std.specs.Prelude.{◌≡◌, ℕ, List, [], ◌∷◌, slice_index}
+use Rattle.std.specs.Prelude.{◌≡◌, ℕ, List, [], ◌∷◌, bit_xor, slice_index}
 use Rattle.aes_tables.specs.Field.{sbox, mul}
 use Rattle.aes_tables.specs.Tables.{word}
 use Rattle.aes.specs.Cipher.{at, byte, state, mixed}
@@ -37,3 +37,7 @@ unfoldable pub t : ℕ → ℕ → ℕ
 t r b =
     let s = sbox b in
     slice_index (word (mul 2 s) s s (mul 3 s) ∷ word (mul 3 s) (mul 2 s) s s ∷ word s (mul 3 s) (mul 2 s) s ∷ word s s (mul 3 s) (mul 2 s) ∷ []) r
+
+-- SubBytes and MixColumns of byte 0 of a, byte 1 of b, byte 2 of c and byte 3 of d
+unfoldable pub mix_column : ℕ → ℕ → ℕ → ℕ → ℕ
+mix_column a b c d = bit_xor (bit_xor (bit_xor (t 0 (byte 0 a)) (t 1 (byte 1 b))) (t 2 (byte 2 c))) (t 3 (byte 3 d))

@@ -44,12 +44,13 @@ impl AesKey {
     pub fn encipher(&self, block: &[u8; 16]) -> [u8; 16]
         ensures { result ≡ aes_of (key_of self.now) block.now }
     {
+        let (keys, _) = self.words.as_chunks::<4>();
         let rounds = self.nk + 6;
-        let mut s = load(block, &self.words);
-        for n in 1..rounds {
-            s = round(&s, &self.words, n);
+        let mut s = load(block, &keys[0]);
+        for key in &keys[1..rounds] {
+            s = round(&s, key);
         }
-        store(&last_round(&s, &self.words, rounds))
+        store(&last_round(&s, &keys[rounds]))
     }
 }
 

@@ -1,5 +1,5 @@
 // KeyExpansion: the words of the round keys.
-ghost use Rattle.std.specs.Prelude.{◌≡◌, ◌+◌, ◌*◌, ◌<◌, ◌≤◌, ◌⊎◌, length, take};
+ghost use Rattle.std.specs.Prelude.{◌≡◌, ◌+◌, ◌*◌, ◌/◌, ◌<◌, ◌≤◌, ◌⊎◌, length, take};
 ghost use Rattle.aes.specs.Cipher.{sub_word, rot_word, rcon as rcon_of, temp as temp_of, key_words, key_expansion};
 
 use super::state::sub_column;
@@ -14,7 +14,8 @@ const RCON: [u32; 10] = [
 
 // The round constant j.
 fn rcon(j: usize) -> u32
-    requires { (0 < j) × (j ≤ 10) }
+    requires above { 0 < j }
+    requires below { j ≤ 10 }
     ensures { result ≡ rcon_of j }
 {
     RCON[j - 1]
@@ -24,7 +25,7 @@ fn rcon(j: usize) -> u32
 fn sub_word(w: u32) -> u32
     ensures { result ≡ sub_word w }
 {
-    sub_column(w, w, w, w)
+    sub_column([w; 4])
 }
 
 // The bytes turned by one place, the highest to the end.
@@ -36,7 +37,9 @@ fn rot_word(w: u32) -> u32
 
 // What word i of a key schedule adds to word i - nk, from w, the word i - 1.
 fn temp(nk: usize, i: usize, w: u32) -> u32
-    requires { ((nk ≡ 4) ⊎ (nk ≡ 8)) × ((nk ≤ i) × (i < 4 * (nk + 7))) }
+    requires size { (nk ≡ 4) ⊎ (nk ≡ 8) }
+    requires low { nk ≤ i }
+    requires high { i < 4 * (nk + 7) }
     ensures { result ≡ temp_of nk i w }
 {
     if i % nk == 0 {
@@ -48,24 +51,27 @@ fn temp(nk: usize, i: usize, w: u32) -> u32
     }
 }
 
-// The key itself, as the first nk words.
-fn key_words(key: &[u8], nk: usize) -> Schedule
-    requires { (nk ≤ 8) × (length key.now ≡ 4 * nk) }
-    ensures { take nk result ≡ key_words key.now nk }
+// The key itself, as the first words.
+fn key_words(key: &[u8]) -> Schedule
+    requires { length key.now ≤ 240 }
+    ensures { take (length key.now / 4) result ≡ key_words key.now (length key.now / 4) }
 {
+    let (words, _) = key.as_chunks::<4>();
     let mut w = [0; 60];
-    for i in 0..nk {
-        w[i] = u32::from_be_bytes([key[4 * i], key[4 * i + 1], key[4 * i + 2], key[4 * i + 3]]);
+    for (i, word) in words.iter().enumerate() {
+        w[i] = u32::from_be_bytes(*word);
     }
     w
 }
 
 // The key schedule of a key of nk words.
 pub(crate) fn key_expansion(key: &[u8], nk: usize) -> Schedule
-    requires { ((nk ≡ 4) ⊎ (nk ≡ 8)) × (length key.now ≡ 4 * nk) }
+    requires size { (nk ≡ 4) ⊎ (nk ≡ 8) }
+    requires long { length key.now ≡ 4 * nk }
     ensures { take (4 * (nk + 7)) result ≡ key_expansion key.now nk }
 {
-    let mut w = key_words(key, nk);
+    let mut w = key_words(key);
+    // Kept: a word is made of two words before it in the same array, by a rule that reads i.
     for i in nk..4 * (nk + 7) {
         w[i] = w[i - nk] ^ temp(nk, i, w[i - 1]);
     }

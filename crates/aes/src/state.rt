@@ -1,10 +1,11 @@
 // The state as four words, one to a column, and the rounds on it.
-ghost use Rattle.std.specs.Prelude.{◌≡◌, ◌<◌, ◌≤◌};
+ghost use Rattle.std.specs.Prelude.{◌≡◌, ◌+◌, ◌%◌, ◌<◌, map, slice_index};
+ghost use Rattle.std.specs.List.{range_with_len};
 ghost use Rattle.aes.specs.Cipher.{byte, sub_bytes, shift_rows, mix_columns, add_round_key};
-ghost use Rattle.aes.specs.Columns.{IsColumn, IsMixedSub, bytes_of, sub_column, t as t_of};
+ghost use Rattle.aes.specs.Columns.{bytes_of, sub_column, mix_column, t as t_of};
 
-use super::schedule::Schedule;
 use aes_tables::{sub_byte, t0};
+use std::array;
 
 // The columns, each with row 0 as its highest byte.
 pub(crate) type State = [u32; 4];
@@ -25,10 +26,11 @@ fn t(r: u32, b: u8) -> u32
     t0(b).rotate_right(8 * r)
 }
 
-// SubBytes of byte 0 of a, byte 1 of b, byte 2 of c and byte 3 of d.
-pub(crate) fn sub_column(a: u32, b: u32, c: u32, d: u32) -> u32
-    ensures { result ≡ sub_column a b c d }
+// SubBytes of the byte in row r of the column r of four.
+pub(crate) fn sub_column(columns: [u32; 4]) -> u32
+    ensures { result ≡ sub_column (slice_index columns 0) (slice_index columns 1) (slice_index columns 2) (slice_index columns 3) }
 {
+    let [a, b, c, d] = columns;
     u32::from_be_bytes([
         sub_byte(byte_of(a, 0)),
         sub_byte(byte_of(b, 1)),
@@ -38,61 +40,41 @@ pub(crate) fn sub_column(a: u32, b: u32, c: u32, d: u32) -> u32
 }
 
 // The same, and then MixColumns of the column.
-fn mix_column(a: u32, b: u32, c: u32, d: u32) -> u32
-    ensures { IsMixedSub result a b c d }
+fn mix_column(columns: [u32; 4]) -> u32
+    ensures { result ≡ mix_column (slice_index columns 0) (slice_index columns 1) (slice_index columns 2) (slice_index columns 3) }
 {
+    let [a, b, c, d] = columns;
     t(0, byte_of(a, 0)) ^ t(1, byte_of(b, 1)) ^ t(2, byte_of(c, 2)) ^ t(3, byte_of(d, 3))
 }
 
-// Column c of a block.
-fn load_column(block: &[u8; 16], c: usize) -> u32
+// The columns from which ShiftRows brings the bytes of rows 0 to 3 into column c.
+fn shifted(s: &State, c: usize) -> [u32; 4]
     requires { c < 4 }
-    ensures { IsColumn result block.now c }
+    ensures { result ≡ map (λ r. slice_index s.now ((c + r) % 4)) (range_with_len 0 4) }
 {
-    u32::from_be_bytes([
-        block[4 * c],
-        block[1 + 4 * c],
-        block[2 + 4 * c],
-        block[3 + 4 * c],
-    ])
+    array::from_fn(|r| s[(c + r) % 4])
 }
 
-// AddRoundKey of a block, with the first round key.
-pub(crate) fn load(block: &[u8; 16], words: &Schedule) -> State
-    ensures { bytes_of result ≡ add_round_key block.now words.now 0 }
+// AddRoundKey of a block.
+pub(crate) fn load(block: &[u8; 16], key: &[u32; 4]) -> State
+    ensures { bytes_of result ≡ add_round_key block.now key.now 0 }
 {
-    [
-        load_column(block, 0) ^ words[0],
-        load_column(block, 1) ^ words[1],
-        load_column(block, 2) ^ words[2],
-        load_column(block, 3) ^ words[3],
-    ]
+    let (columns, _) = block.as_chunks::<4>();
+    array::from_fn(|c| u32::from_be_bytes(columns[c]) ^ key[c])
 }
 
-// Round n, but for the last.
-pub(crate) fn round(s: &State, words: &Schedule, n: usize) -> State
-    requires { n ≤ 14 }
-    ensures { bytes_of result ≡ add_round_key (mix_columns (shift_rows (sub_bytes (bytes_of s.now)))) words.now n }
+// A round but for the last.
+pub(crate) fn round(s: &State, key: &[u32; 4]) -> State
+    ensures { bytes_of result ≡ add_round_key (mix_columns (shift_rows (sub_bytes (bytes_of s.now)))) key.now 0 }
 {
-    [
-        mix_column(s[0], s[1], s[2], s[3]) ^ words[4 * n],
-        mix_column(s[1], s[2], s[3], s[0]) ^ words[4 * n + 1],
-        mix_column(s[2], s[3], s[0], s[1]) ^ words[4 * n + 2],
-        mix_column(s[3], s[0], s[1], s[2]) ^ words[4 * n + 3],
-    ]
+    array::from_fn(|c| mix_column(shifted(s, c)) ^ key[c])
 }
 
-// The last round, n, which does not mix columns.
-pub(crate) fn last_round(s: &State, words: &Schedule, n: usize) -> State
-    requires { n ≤ 14 }
-    ensures { bytes_of result ≡ add_round_key (shift_rows (sub_bytes (bytes_of s.now))) words.now n }
+// The last round, which does not mix columns.
+pub(crate) fn last_round(s: &State, key: &[u32; 4]) -> State
+    ensures { bytes_of result ≡ add_round_key (shift_rows (sub_bytes (bytes_of s.now))) key.now 0 }
 {
-    [
-        sub_column(s[0], s[1], s[2], s[3]) ^ words[4 * n],
-        sub_column(s[1], s[2], s[3], s[0]) ^ words[4 * n + 1],
-        sub_column(s[2], s[3], s[0], s[1]) ^ words[4 * n + 2],
-        sub_column(s[3], s[0], s[1], s[2]) ^ words[4 * n + 3],
-    ]
+    array::from_fn(|c| sub_column(shifted(s, c)) ^ key[c])
 }
 
 // The bytes of the state.

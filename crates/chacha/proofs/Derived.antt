@@ -1,11 +1,11 @@
--- The lengths and the bytes of a block and of a subkey, and the steps that lead to a subkey.
-use Rattle.std.proofs.Common.{◌≡◌, ℕ, zero, suc, ◌*◌, List, [], ◌∷◌, length, get_or, refl, ap, ◌∙◌}
+-- The lengths and the bytes of a block and of a subkey.
+use Rattle.std.proofs.Common.{◌≡◌, ℕ, zero, suc, ◌*◌, List, [], ◌∷◌, length, refl, ap, ◌∙◌}
 use Rattle.octets.specs.Strings.{Bytes}
 use Rattle.std.proofs.lemmas.List.{length-set}
 use Rattle.chacha.proofs.Serial.{length-serialized, bytes-serialized}
 use Rattle.chacha.proofs.Sums.{length-sums}
 use Rattle.chacha.specs.ChaCha20.{state, quarter_round_at, column_round, diagonal_round, double_rounds, block, subkey}
-use Rattle.chacha.specs.Words.{word, words, serialized}
+use Rattle.chacha.specs.Words.{words}
 
 length_at : (x y z w : ℕ) (s : List ℕ) → length (quarter_round_at x y z w s) ≡ length s
 unfolding quarter_round_at
@@ -37,12 +37,3 @@ length-subkey key input = length-serialized _
 pub bytes-subkey : (key input : List ℕ) → Bytes (subkey key input)
 unfolding subkey
 bytes-subkey key input = bytes-serialized _
-
-pub subkey-steps : (key input start end bytes : List ℕ) (a b c d : ℕ)
-    → a ≡ word input 0 → b ≡ word input 1 → c ≡ word input 2 → d ≡ word input 3
-    → start ≡ state key (a ∷ b ∷ c ∷ d ∷ [])
-    → end ≡ double_rounds 10 start
-    → bytes ≡ serialized (get_or end 0 0 ∷ get_or end 1 0 ∷ get_or end 2 0 ∷ get_or end 3 0 ∷ get_or end 12 0 ∷ get_or end 13 0 ∷ get_or end 14 0 ∷ get_or end 15 0 ∷ [])
-    → bytes ≡ subkey key input
-unfolding subkey
-subkey-steps key input start end bytes a b c d p q r s t e z = cc

@@ -24,7 +24,10 @@ fn quarter_round(words: (u32, u32, u32, u32)) -> (u32, u32, u32, u32)
 
 // The quarter round on the words x, y, z and w of the state.
 fn quarter_round_at(s: &mut State, x: usize, y: usize, z: usize, w: usize)
-    requires { (x < 16) × ((y < 16) × ((z < 16) × (w < 16))) }
+    requires first { x < 16 }
+    requires second { y < 16 }
+    requires third { z < 16 }
+    requires fourth { w < 16 }
     ensures { s.new ≡ quarter_round_at x y z w s.old }
 {
     let (a, b, c, d) = quarter_round((s[x], s[y], s[z], s[w]));

@@ -3,3 +3,4 @@ pub mod Xor
 pub mod Slices
 pub mod Numbers
 pub mod Same
+pub mod Arrays

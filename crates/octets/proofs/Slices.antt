@@ -30,12 +30,12 @@ take_same (x ∷ xs) (suc m) zero e = absurd (omega arith)
 take_same (x ∷ xs) (suc m) (suc n) e = ap (λ (t : List ℕ). x ∷ t) (take_same xs m n (omega arith))
 
 -- the front of a block of zero bytes after it was copied over
-pub filled-front : (xs : List ℕ) (n : ℕ) (front : List ℕ) → n ≡ min (length xs) 16 → front ≡ take (n - 0) xs → front ++ drop (n - 0) (zeros 16) ≡ filled 16 xs
+pub filled-front : (N : ℕ) (xs : List ℕ) (n : ℕ) (front : List ℕ) → n ≡ min (length xs) N → front ≡ take n xs → front ++ drop n (zeros N) ≡ filled N xs
 unfolding filled
-filled-front xs n front e f =
-    let a : take (n - 0) xs ≡ take 16 xs = take_same xs (n - 0) 16 (omega arith) in
-    let b : drop (n - 0) (zeros 16) ≡ zeros (16 - (n - 0)) = drop-replicate (n - 0) 16 0 in
-    let g : 16 - (n - 0) ≡ 16 - length xs = omega arith in
+filled-front N xs n front e f =
+    let a : take n xs ≡ take N xs = take_same xs n N (omega arith) in
+    let b : drop n (zeros N) ≡ zeros (N - n) = drop-replicate n N 0 in
+    let g : N - n ≡ N - length xs = omega arith in
     ap₂ (λ (x y : List ℕ). x ++ y) (f ∙ a) (b ∙ ap zeros g)
 
 pub filled-take : (n : ℕ) (xs : List ℕ) → n ≤ length xs → filled n xs ≡ take n xs

@@ -10,8 +10,9 @@ pub fn add_into(dst: &mut [u8], src: &[u8])
     ensures { dst.new ≡ xor dst.old src.now }
 {
     let n = dst.len().min(src.len());
-    for i in 0..n {
-        dst[i] ^= src[i];
+    // Kept: dst[i], for of bytes written through a zip of iter_mut a proof knows only how many there are.
+    for (i, s) in src[..n].iter().enumerate() {
+        dst[i] ^= s;
     }
 }
 
@@ -39,8 +40,8 @@ pub fn equal(a: &[u8], b: &[u8]) -> bool
         return false;
     }
     let mut differ = 0;
-    for i in 0..a.len() {
-        differ |= a[i] ^ b[i];
+    for (x, y) in a.iter().zip(b) {
+        differ |= x ^ y;
     }
     differ == 0
 }
@@ -66,13 +67,13 @@ pub fn be_value(bytes: &[u8; 8]) -> u64
     u64::from_be_bytes(*bytes)
 }
 
-// The first sixteen bytes, with zero bytes after them where there are fewer.
-pub fn block(s: &[u8]) -> [u8; 16]
-    ensures { result ≡ filled 16 s.now }
+// The first N bytes, with zero bytes after them where there are fewer.
+pub fn block<const N: usize>(s: &[u8]) -> [u8; N]
+    ensures { result ≡ filled N s.now }
 {
-    let mut b = [0; 16];
-    let n = s.len().min(16);
-    b[0..n].copy_from_slice(&s[0..n]);
+    let mut b = [0; N];
+    let n = s.len().min(N);
+    b[..n].copy_from_slice(&s[..n]);
     b
 }
 

@@ -3,9 +3,4 @@ use Rattle.chacha.specs.ChaCha20.{block}
 
 pub returns : goal.returns
 unfolding block
-returns c =
-    let i = c.state-initial.ensures in
-    let r = c.twenty_rounds.ensures in
-    let a = c.add_words.ensures in
-    let s = c.serialize.ensures in
-    cc
+returns c = rw (c.serialize.ensures, c.sum.ensures, c.twenty_rounds.ensures, c.state-initial.ensures, c.words.ensures)

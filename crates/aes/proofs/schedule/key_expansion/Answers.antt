@@ -1,4 +1,4 @@
-use Rattle.std.proofs.Common.{◌≡◌, ℕ, ◌+◌, ◌-◌, ◌*◌, take, sym, ap, ◌∙◌, arith, rules}
+use Rattle.std.proofs.Common.{◌≡◌, ℕ, ◌+◌, ◌-◌, ◌*◌, ◌/◌, length, take, sym, ap, ◌∙◌, arith, rules}
 use Rattle.std.proofs.lemmas.List.{length-set}
 use Rattle.aes.specs.Cipher.{expanded, key_words, key_expansion}
 use Rattle.aes.proofs.Expansion.{schedule-more}
@@ -8,7 +8,8 @@ pub loop-i-init : goal.loop-i-init
 unfolding expanded
 loop-i-init c =
     let z : c.args.nk - c.args.nk ≡ 0 = omega arith in
-    (c.key_words-w.ensures ∙ ap (λ (n : ℕ). expanded c.args.nk n (key_words c.args.key.now c.args.nk)) (sym z), search rules)
+    let n : length c.args.key.now / 4 ≡ c.args.nk = omega arith in
+    (rw n at c.key_words-w.ensures ∙ ap (λ (n : ℕ). expanded c.args.nk n (key_words c.args.key.now c.args.nk)) (sym z), search rules)
 
 pub loop-i-preserved : goal.loop-i-preserved
 loop-i-preserved c = (

@@ -1,6 +1,11 @@
-use Rattle.std.proofs.Common.{rules}
-use Rattle.aes.proofs.Steps.{ending}
+use Rattle.std.proofs.Common.{get_or, ap, ◌∙◌, rules}
+use lib.Bits.{bit_xor}
+use Rattle.octets.proofs.Arrays.{items_from_fn}
+use Rattle.aes.specs.Columns.{bytes_of, sub_column}
+use Rattle.aes.proofs.Steps.{shifted, ending}
 use Rattle.aes.proofs.state.last_round.Goals as goal
 
 pub returns : goal.returns
-returns c = search (rules, ending)
+returns c =
+    ap bytes_of (items_from_fn _ (λ i. bit_xor (shifted sub_column c.args.s.now i) (get_or c.args.key.now i 0)) _ (λ i y q k. search rules) _ 4 0 c.from_fn.ensures.items)
+    ∙ ending c.args.s.now c.args.key.now
