@@ -1,44 +1,30 @@
--- From what was asked to the verdict.
-use Rattle.std.proofs.Common.{◌≡◌, ℕ, ◌≤◌, Bool, true, false, cond, leb, List, length, take, drop, Some, None, Ok, Err, Option, Result, sym, refl, ap, ◌∙◌, arith, length-append}
-use Rattle.std.proofs.lemmas.List.{length-drop, take_at}
+-- What the library gave, beside what is expected.
+use Rattle.std.proofs.Common.{◌≡◌, ℕ, ◌≤◌, Bool, true, false, leb, List, length, drop, Some, Ok, Err, Option, Result, refl, ap, ◌∙◌, ap₂, option_map, arith}
+use Rattle.std.proofs.lemmas.List.{take_at}
 use Rattle.std.proofs.lemmas.Bool.{leb-false}
-use Rattle.refusals.specs.declared.Refusal.{Refusal}
 use Rattle.octets.specs.Strings.{same}
 use Rattle.octets.proofs.Same.{same_is}
-use Rattle.collating.specs.Answers.{Given}
-use Rattle.collating.specs.Judging.{comparing, counted_in, placed_in, standing, judged}
+use Rattle.refusals.specs.declared.Refusal.{Refusal}
+use Rattle.collating.specs.Answers.{Given, answering, counted, placed}
+use Rattle.collating.specs.Judging.{standing, comparing, judged}
 use Rattle.collating.specs.declared.outcome.Outcome.{Outcome}
+use Rattle.collating.specs.declared.question.Question.{Question}
 use Rattle.collating.specs.declared.report.Verdict.{Verdict}
-use Rattle.collating.specs.declared.report.Verdict.TheVariants as verdict
-
-nothing : {C : Type 0} → ◌≡◌ {A = ℕ} 0 1 → C
-nothing z = absurd (omega arith)
 
 -- a byte string that is longer than any answer is no answer
-pub longer : (bytes w : List ℕ) → length bytes ≤ 4120 → leb (length w) 16384 ≡ false → verdict.Bytes (length bytes) ≡ cond (same bytes w) verdict.Same (verdict.Bytes (length bytes))
+pub longer : (bytes w : List ℕ) → length bytes ≤ 4120 → leb (length w) 16384 ≡ false → false ≡ same bytes w
 longer bytes w short long = at (same bytes w) refl
   where
-    at : (b : Bool) → same bytes w ≡ b → verdict.Bytes (length bytes) ≡ cond b verdict.Same (verdict.Bytes (length bytes))
+    at : (b : Bool) → same bytes w ≡ b → false ≡ b
     at false e = refl
     at true e = absurd (let i = ap length (same_is bytes w e) in let l = leb-false (length w) 16384 long in omega arith)
 
--- bytes that were given stand at the front of an area of 4,120 bytes
-module _ (got : Result ℕ Refusal) (area area' : List ℕ) (size : length area ≡ 4120) (size' : length area' ≡ 4120) where
-  pub within : (o : Option Given) → Some got ≡ counted_in o → area' ≡ placed_in o area → (n : ℕ) → got ≡ Ok n → n ≤ 4120
-  within None e f n i = nothing (cc)
-  within (Some (Err g)) e f n i = nothing (cc)
-  within (Some (Ok bytes)) e f n i =
-      let k : n ≡ length bytes = cc in
-      let l = ap length f ∙ length-append bytes (drop (length bytes) area) in
-      let d = length-drop (length bytes) area in
-      omega arith
+-- what was given stands in the area
+pub stands : (g : Given) (area : List ℕ) → standing (counted g) (placed g area) ≡ g
+stands (Err f) area = refl
+stands (Ok bytes) area = ap Ok (take_at bytes (drop (length bytes) area) (length bytes) refl)
 
-pub compared : (o : Option Given) (got : Result ℕ Refusal) (area area' : List ℕ) (w : Outcome (List ℕ)) (r : Verdict) → Some got ≡ counted_in o → area' ≡ placed_in o area → r ≡ comparing (standing got area') w → r ≡ judged o w
-compared None got area area' w r e f h = nothing (cc)
-compared (Some (Err g)) (Ok n) area area' w r e f h = nothing (cc)
-compared (Some (Ok bytes)) (Err g) area area' w r e f h = nothing (cc)
-compared (Some (Err k)) (Err g) area area' w r e f h = let i : g ≡ k = cc in h ∙ ap (λ (x : Refusal). comparing (Err x) w) i
-compared (Some (Ok bytes)) (Ok n) area area' w r e f h =
-    let k : n ≡ length bytes = cc in
-    let front : take n area' ≡ bytes = ap (take n) f ∙ take_at bytes (drop (length bytes) area) n (sym k) in
-    h ∙ ap (λ (x : List ℕ). comparing (Ok x) w) front
+pub compared : (q : Question (List ℕ)) (o : Option (Question (List ℕ))) (got : Result ℕ Refusal) (area area' : List ℕ) (w : Outcome (List ℕ)) (r : Verdict ℕ)
+    → Some q ≡ o → got ≡ counted (answering q) → area' ≡ placed (answering q) area → r ≡ comparing (standing got area') w → r ≡ judged (option_map answering o) w
+compared q o got area area' w r fits told put is =
+    is ∙ ap (λ g. comparing g w) (ap₂ standing told put ∙ stands (answering q) area) ∙ ap (λ p. judged (option_map answering p) w) fits

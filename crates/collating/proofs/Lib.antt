@@ -1,9 +1,5 @@
-mod Asking
-mod Ciphering
-mod Filling
 mod Judged
 mod Numbering
 mod Recording
 mod Spaces
 mod Stretches
-mod Telling

@@ -1,8 +1,7 @@
 -- A stretch of a sequence, as it comes of zero bytes.
-use Rattle.std.proofs.Common.{◌≡◌, ℕ, zero, suc, ◌+◌, ◌-◌, ◌≤◌, min, ltb, ◌⊎◌, List, [], ◌∷◌, ◌++◌, length, take, drop, Ok, Err, Result, sym, refl, ap, ◌∙◌, inl, inr, arith}
+use Rattle.std.proofs.Common.{◌≡◌, ℕ, zero, suc, ◌+◌, ◌-◌, ◌≤◌, min, ◌⊎◌, List, [], ◌∷◌, ◌++◌, length, take, drop, Ok, Err, Result, sym, refl, ap, ◌∙◌, arith}
 use lib.ListN.{length-replicate}
 use Rattle.std.proofs.lemmas.List.{length-drop, take-replicate}
-use Rattle.std.proofs.lemmas.Bool.{cases_lt, lt-ltb, le-ltb}
 use Rattle.std.proofs.lemmas.Bool.Decides.{nat_tests}
 use Rattle.refusals.specs.declared.Refusal.{Refusal}
 use Rattle.octets.specs.Strings.{xor, zeros}
@@ -17,22 +16,12 @@ xor-zeros zero s h = refl
 xor-zeros (suc n) [] h = absurd (omega arith)
 xor-zeros (suc n) (x ∷ s) h = ap (λ (l : List ℕ). x ∷ l) (xor-zeros n s (omega arith))
 
--- past the reach every length is refused alike
-pub same_end : (reach domain from count n : ℕ) → reach ≤ 4096 → n ≡ min count 4097 → adding reach domain (from + n) ≡ adding reach domain (from + count)
-same_end reach domain from count n most is =
-    let e : ltb reach (from + n) ≡ ltb reach (from + count) =
-    elim (cases_lt reach (from + count)) [
-      | inl h ↦ lt-ltb reach (from + n) (omega arith) ∙ sym (lt-ltb reach (from + count) h)
-      | inr h ↦ le-ltb reach (from + n) (omega arith) ∙ sym (le-ltb reach (from + count) h)
-    ] in
-    simp e
-
 -- the front of more zero bytes than any sequence has
 module _ (m count : ℕ) (blank : List ℕ) (b : blank ≡ zeros 4097) (is : m ≡ min count 4097) where
   front : take (m - 0) blank ≡ zeros (m - 0)
   front = ap (take (m - 0)) b ∙ take-replicate (m - 0) 4097 0 (omega arith)
 
-  pub front_long : length (take (m - 0) blank) ≡ min count 4097
+  front_long : length (take (m - 0) blank) ≡ min count 4097
   front_long = ap length front ∙ length-replicate (m - 0) 0 ∙ (let e : m - 0 ≡ min count 4097 = omega arith in e)
 
   pub front-blank : take (m - 0) blank ≡ zeros (length (take (m - 0) blank))
@@ -55,17 +44,3 @@ stretched reach domain from x s bytes sum area after n v long blank is count put
     let fits : length bytes ≤ length (drop from s) = simp length-drop (omega arith) in
     let e : sum ≡ take (length bytes) (drop from s) = is ∙ ap (λ (l : List ℕ). xor l (drop from s)) blank ∙ xor-zeros (length bytes) (drop from s) fits in
     gave (adding reach domain (from + length bytes)) x (take (length bytes) (drop from s)) area after n v (count ∙ ap length e) (put ∙ ap (λ (l : List ℕ). l ++ drop (length l) area) e)
-
--- the same where more was asked for than any sequence has
-pub asked-for : (reach domain from count n : ℕ) (s area after : List ℕ) (r : Result ℕ Refusal) → reach ≤ 4096 → n ≡ min count 4097 → r ≡ counted (expanding (adding reach domain (from + n)) (take n (drop from s))) → after ≡ placed (expanding (adding reach domain (from + n)) (take n (drop from s))) area → (r ≡ counted (expanding (adding reach domain (from + count)) (take count (drop from s)))) × (after ≡ placed (expanding (adding reach domain (from + count)) (take count (drop from s))) area)
-asked-for reach domain from count n s area after r most is e f =
-    let same = at (adding reach domain (from + n)) refl in
-    (e ∙ ap counted same, f ∙ ap (λ g. placed g area) same)
-  where
-    at : (v : Result (Unit {0}) ExpanderFault) → adding reach domain (from + n) ≡ v → expanding (adding reach domain (from + n)) (take n (drop from s)) ≡ expanding (adding reach domain (from + count)) (take count (drop from s))
-    at (Ok x) i =
-        let end = within-reach reach domain (from + n) x (sym i) in
-        let all : n ≡ count = omega arith in
-        ap (λ k. expanding (adding reach domain (from + k)) (take k (drop from s))) all
-    at (Err g) i =
-        ap (λ v. expanding v (take n (drop from s))) i ∙ sym (ap (λ v. expanding v (take count (drop from s))) (sym (same_end reach domain from count n most is) ∙ i))

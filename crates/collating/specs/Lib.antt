@@ -3,7 +3,6 @@ pub mod Keys
 pub mod Answers
 pub mod Words
 pub mod Reading
-pub mod Heard
 pub mod Judging
 pub mod Filling
 pub mod Reports

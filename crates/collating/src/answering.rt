@@ -2,19 +2,17 @@
 ghost use Rattle.std.specs.Prelude.{◌≡◌, ℕ, ◌+◌, ◌≤◌, true, List, ◌++◌, length, take, drop};
 ghost use Rattle.octets.specs.Strings.{zeros};
 ghost use Rattle.expanders.specs.Refusals.{adding};
-ghost use Rattle.ciphers.specs.Refusals.{verdict};
-ghost use Rattle.sealing.specs.Calls.{sealing as judged};
+ghost use Rattle.ciphers.specs.Refusals.{verdict, kept};
 ghost use Rattle.sealing.specs.Meaning.{meaning};
-ghost use Rattle.sealing.specs.Sealing.{record_of};
-ghost use Rattle.collating.specs.Answers.{answering, counted, placed, expanding, ciphering, sealed as sealing};
-ghost use Rattle.collating.specs.Questions.{asked};
-ghost use Rattle.collating.specs.declared.question.Question.TheVariants.{Aes, Polyval as PolyvalHash, Cmac as CmacHash, ChaCha, Subkey, Expand, Encipher, Decipher, Seal};
+ghost use Rattle.collating.specs.Answers.{answering, counted, placed, stretching, stretch_of, directed, through, recording};
+ghost use Rattle.collating.specs.Questions.{asked, stretch_with, ciphering_with, sealing_with};
+ghost use Rattle.collating.specs.declared.question.Question.TheVariants.{Aes, Hash, ChaCha, Subkey, Expand, Cipher, Seal};
 ghost use Rattle.collating.specs.Keys.{ChaChaKey};
 
-use crate::question::{Kind, Question};
+use crate::question::{Ciphering, Direction, ExpanderKind, HashKind, Question, Sealing, Stretch};
 use aes::AesKey;
 use chacha::{block, subkey};
-use ciphers::{WideCipher, pile_a, pile_b};
+use ciphers::{CipherFault, WideCipher, pile_a, pile_b};
 use expanders::{AesExpander, ChaChaExpander, Expander};
 use forms::Pile;
 use hashes::{Cmac, KeyedHash, Polyval};
@@ -48,32 +46,21 @@ fn aes_block(key: &[u8], block: &[u8; 16], area: &mut Area) -> Result<usize, Ref
     Ok(put(&key.encipher(block), area))
 }
 
-fn polyval(key: &[u8], string: &[u8], area: &mut Area) -> Result<usize, Refusal>
-    ensures answer { result ≡ counted (answering (PolyvalHash key.now string.now)) }
-    ensures after { area.new ≡ placed (answering (PolyvalHash key.now string.now)) area.old }
+fn keyed_hash(kind: HashKind, key: &[u8], string: &[u8], area: &mut Area) -> Result<usize, Refusal>
+    ensures answer { result ≡ counted (answering (Hash kind key.now string.now)) }
+    ensures after { area.new ≡ placed (answering (Hash kind key.now string.now)) area.old }
 {
-    let hash = Polyval::new(key)?;
-    Ok(put(&hash.hash(string, &[]), area))
-}
-
-fn cmac(key: &[u8], string: &[u8], area: &mut Area) -> Result<usize, Refusal>
-    ensures answer { result ≡ counted (answering (CmacHash key.now string.now)) }
-    ensures after { area.new ≡ placed (answering (CmacHash key.now string.now)) area.old }
-{
-    let hash = Cmac::new(key)?;
-    Ok(put(&hash.hash(string, &[]), area))
+    match kind {
+        HashKind::Polyval => Ok(put(&Polyval::new(key)?.hash(string, &[]), area)),
+        HashKind::Cmac => Ok(put(&Cmac::new(key)?.hash(string, &[]), area)),
+    }
 }
 
 // The key of ChaCha20. Any length but 32 is refused.
 fn chacha_key(key: &[u8]) -> Result<[u8; 32], KeyLength>
     ensures { ChaChaKey key.now result }
 {
-    if key.len() != 32 {
-        return Err(KeyLength(key.len()));
-    }
-    let mut bytes = [0; 32];
-    bytes.copy_from_slice(key);
-    Ok(bytes)
+    <[u8; 32]>::try_from(key).map_err(|_| KeyLength(key.len()))
 }
 
 fn chacha_block(
@@ -115,140 +102,97 @@ fn added<E: Expander>(
 ) -> Result<usize, Refusal>
     requires zero { bytes.old ≡ zeros (length bytes.old) }
     requires short { length bytes.old ≤ 4097 }
-    ensures answer { result ≡ counted (expanding (adding (E.Expander.reach expander.now) domain (from + length bytes.old)) (take (length bytes.old) (drop from (E.Expander.sequence expander.now domain tweak.now input.now)))) }
-    ensures after { area.new ≡ placed (expanding (adding (E.Expander.reach expander.now) domain (from + length bytes.old)) (take (length bytes.old) (drop from (E.Expander.sequence expander.now domain tweak.now input.now)))) area.old }
+    ensures answer { result ≡ counted (stretching (E.reach expander.now) (E.sequence expander.now) domain tweak.now input.now from (length bytes.old)) }
+    ensures after { area.new ≡ placed (stretching (E.reach expander.now) (E.sequence expander.now) domain tweak.now input.now from (length bytes.old)) area.old }
 {
     expander.add(domain, tweak, input, from, bytes)?;
     Ok(put(bytes, area))
 }
 
 // A stretch of the sequence. One that is longer than every sequence is refused, however long it is.
-fn stretch<E: Expander>(
+fn stretched<E: Expander>(
     expander: &E,
-    domain: u8,
-    tweak: &[u8; 8],
-    input: &[u8; 16],
-    from: u64,
-    count: u64,
+    stretch: &Stretch<&[u8]>,
     area: &mut Area,
 ) -> Result<usize, Refusal>
-    ensures answer { result ≡ counted (expanding (adding (E.Expander.reach expander.now) domain (from + count)) (take count (drop from (E.Expander.sequence expander.now domain tweak.now input.now)))) }
-    ensures after { area.new ≡ placed (expanding (adding (E.Expander.reach expander.now) domain (from + count)) (take count (drop from (E.Expander.sequence expander.now domain tweak.now input.now)))) area.old }
+    ensures answer { result ≡ counted (stretch_of (E.reach expander.now) (E.sequence expander.now) stretch.now) }
+    ensures after { area.new ≡ placed (stretch_of (E.reach expander.now) (E.sequence expander.now) stretch.now) area.old }
 {
     let mut bytes = blank();
-    let end = (count as usize).min(PAST_REACH);
+    let end = (stretch.count as usize).min(PAST_REACH);
     added(
         expander,
-        domain,
-        tweak,
-        input,
-        from as usize,
+        stretch.domain,
+        &stretch.tweak,
+        &stretch.input,
+        stretch.from as usize,
         &mut bytes[0..end],
         area,
     )
 }
 
-fn enciphered<C: WideCipher>(
+fn expand(stretch: &Stretch<&[u8]>, area: &mut Area) -> Result<usize, Refusal>
+    ensures answer { result ≡ counted (answering (Expand (stretch_with (λ s. s.now) stretch.now))) }
+    ensures after { area.new ≡ placed (answering (Expand (stretch_with (λ s. s.now) stretch.now))) area.old }
+{
+    match stretch.kind {
+        ExpanderKind::Aes => stretched(&AesExpander::new(stretch.key)?, stretch, area),
+        ExpanderKind::ChaCha => stretched(&ChaChaExpander::new(stretch.key)?, stretch, area),
+    }
+}
+
+// A string, changed in place one way through a cipher.
+fn turn<C: WideCipher>(
     cipher: &C,
+    direction: Direction,
+    tweak: &[u8; 8],
+    s: &mut [u8],
+) -> Result<(), CipherFault>
+    ensures answer { result ≡ verdict (C.lowest cipher.now) (C.highest cipher.now) (C.carried cipher.now) (length s.old) }
+    ensures after { s.new ≡ kept result s.old (directed direction (C.enc cipher.now tweak.now s.old) (C.dec cipher.now tweak.now s.old)) }
+{
+    match direction {
+        Direction::Encipher => cipher.encipher(tweak, s),
+        Direction::Decipher => cipher.decipher(tweak, s),
+    }
+}
+
+fn through<C: WideCipher>(
+    cipher: &C,
+    direction: Direction,
     tweak: &[u8; 8],
     string: &[u8],
     area: &mut Area,
 ) -> Result<usize, Refusal>
-    ensures answer { result ≡ counted (ciphering (verdict (C.WideCipher.lowest cipher.now) (C.WideCipher.highest cipher.now) (C.WideCipher.carried cipher.now) (length string.now)) (C.WideCipher.enc cipher.now tweak.now string.now)) }
-    ensures after { area.new ≡ placed (ciphering (verdict (C.WideCipher.lowest cipher.now) (C.WideCipher.highest cipher.now) (C.WideCipher.carried cipher.now) (length string.now)) (C.WideCipher.enc cipher.now tweak.now string.now)) area.old }
+    ensures answer { result ≡ counted (through C.WideCipher cipher.now direction tweak.now string.now) }
+    ensures after { area.new ≡ placed (through C.WideCipher cipher.now direction tweak.now string.now) area.old }
 {
     cipher.admits(string.len())?;
     let length = put(string, area);
-    if let Err(_) = cipher.encipher(tweak, &mut area[0..length]) {
+    if let Err(_) = turn(cipher, direction, tweak, &mut area[0..length]) {
         unreachable()
     }
     Ok(length)
 }
 
-fn deciphered<C: WideCipher>(
-    cipher: &C,
-    tweak: &[u8; 8],
-    string: &[u8],
-    area: &mut Area,
-) -> Result<usize, Refusal>
-    ensures answer { result ≡ counted (ciphering (verdict (C.WideCipher.lowest cipher.now) (C.WideCipher.highest cipher.now) (C.WideCipher.carried cipher.now) (length string.now)) (C.WideCipher.dec cipher.now tweak.now string.now)) }
-    ensures after { area.new ≡ placed (ciphering (verdict (C.WideCipher.lowest cipher.now) (C.WideCipher.highest cipher.now) (C.WideCipher.carried cipher.now) (length string.now)) (C.WideCipher.dec cipher.now tweak.now string.now)) area.old }
+fn ciphered(ciphering: &Ciphering<&[u8]>, area: &mut Area) -> Result<usize, Refusal>
+    ensures answer { result ≡ counted (answering (Cipher (ciphering_with (λ s. s.now) ciphering.now))) }
+    ensures after { area.new ≡ placed (answering (Cipher (ciphering_with (λ s. s.now) ciphering.now))) area.old }
 {
-    cipher.admits(string.len())?;
-    let length = put(string, area);
-    if let Err(_) = cipher.decipher(tweak, &mut area[0..length]) {
-        unreachable()
-    }
-    Ok(length)
-}
-
-fn expand(
-    kind: Kind,
-    key: &[u8],
-    domain: u8,
-    tweak: &[u8; 8],
-    input: &[u8; 16],
-    from: u64,
-    count: u64,
-    area: &mut Area,
-) -> Result<usize, Refusal>
-    ensures answer { result ≡ counted (answering (Expand kind key.now domain tweak.now input.now from count)) }
-    ensures after { area.new ≡ placed (answering (Expand kind key.now domain tweak.now input.now from count)) area.old }
-{
-    match kind {
-        Kind::Aes => {
-            let expander = AesExpander::new(key)?;
-            stretch(&expander, domain, tweak, input, from, count, area)
-        }
-        Kind::ChaCha => {
-            let expander = ChaChaExpander::new(key)?;
-            stretch(&expander, domain, tweak, input, from, count, area)
-        }
-    }
-}
-
-fn encipher(
-    pile: Pile,
-    hash_key: &[u8],
-    expander_key: &[u8],
-    tweak: &[u8; 8],
-    string: &[u8],
-    area: &mut Area,
-) -> Result<usize, Refusal>
-    ensures answer { result ≡ counted (answering (Encipher pile hash_key.now expander_key.now tweak.now string.now)) }
-    ensures after { area.new ≡ placed (answering (Encipher pile hash_key.now expander_key.now tweak.now string.now)) area.old }
-{
-    match pile {
+    let Ciphering {
+        direction,
+        keys,
+        tweak,
+        string,
+    } = *ciphering;
+    match keys.pile {
         Pile::A => {
-            let cipher = pile_a(hash_key, expander_key)?;
-            enciphered(&cipher, tweak, string, area)
+            let cipher = pile_a(keys.hash_key, keys.expander_key)?;
+            through(&cipher, direction, &tweak, string, area)
         }
         Pile::B => {
-            let cipher = pile_b(hash_key, expander_key)?;
-            enciphered(&cipher, tweak, string, area)
-        }
-    }
-}
-
-fn decipher(
-    pile: Pile,
-    hash_key: &[u8],
-    expander_key: &[u8],
-    tweak: &[u8; 8],
-    string: &[u8],
-    area: &mut Area,
-) -> Result<usize, Refusal>
-    ensures answer { result ≡ counted (answering (Decipher pile hash_key.now expander_key.now tweak.now string.now)) }
-    ensures after { area.new ≡ placed (answering (Decipher pile hash_key.now expander_key.now tweak.now string.now)) area.old }
-{
-    match pile {
-        Pile::A => {
-            let cipher = pile_a(hash_key, expander_key)?;
-            deciphered(&cipher, tweak, string, area)
-        }
-        Pile::B => {
-            let cipher = pile_b(hash_key, expander_key)?;
-            deciphered(&cipher, tweak, string, area)
+            let cipher = pile_b(keys.hash_key, keys.expander_key)?;
+            through(&cipher, direction, &tweak, string, area)
         }
     }
 }
@@ -257,43 +201,40 @@ fn decipher(
 fn recorded<C: WideCipher, J: KeyedHash>(
     cipher: &C,
     hash: &J,
-    line: &LineName,
-    number: u64,
-    header: &[u8],
-    text: &[u8],
+    sealing: &Sealing<&[u8]>,
     area: &mut Area,
 ) -> Result<usize, Refusal>
-    ensures answer { result ≡ counted (sealing (judged (meaning C.WideCipher J.KeyedHash cipher.now hash.now line.now.bytes) number (length header.now) (length text.now) 4120) (record_of (meaning C.WideCipher J.KeyedHash cipher.now hash.now line.now.bytes) header.now number text.now)) }
-    ensures after { area.new ≡ placed (sealing (judged (meaning C.WideCipher J.KeyedHash cipher.now hash.now line.now.bytes) number (length header.now) (length text.now) 4120) (record_of (meaning C.WideCipher J.KeyedHash cipher.now hash.now line.now.bytes) header.now number text.now)) area.old }
+    ensures answer { result ≡ counted (recording (meaning C.WideCipher J.KeyedHash cipher.now hash.now sealing.now.line) sealing.now.number sealing.now.header.now sealing.now.text.now) }
+    ensures after { area.new ≡ placed (recording (meaning C.WideCipher J.KeyedHash cipher.now hash.now sealing.now.line) sealing.now.number sealing.now.header.now sealing.now.text.now) area.old }
 {
-    Ok(seal(cipher, hash, line, number, header, text, area)?)
+    let line = LineName::new(&sealing.line);
+    let length = seal(
+        cipher,
+        hash,
+        &line,
+        sealing.number,
+        sealing.header,
+        sealing.text,
+        area,
+    )?;
+    Ok(length)
 }
 
-fn sealed(
-    pile: Pile,
-    hash_key: &[u8],
-    expander_key: &[u8],
-    header_key: &[u8],
-    line: &[u8; 8],
-    number: u64,
-    header: &[u8],
-    text: &[u8],
-    area: &mut Area,
-) -> Result<usize, Refusal>
-    ensures answer { result ≡ counted (answering (Seal pile hash_key.now expander_key.now header_key.now line.now number header.now text.now)) }
-    ensures after { area.new ≡ placed (answering (Seal pile hash_key.now expander_key.now header_key.now line.now number header.now text.now)) area.old }
+fn sealed(sealing: &Sealing<&[u8]>, area: &mut Area) -> Result<usize, Refusal>
+    ensures answer { result ≡ counted (answering (Seal (sealing_with (λ s. s.now) sealing.now))) }
+    ensures after { area.new ≡ placed (answering (Seal (sealing_with (λ s. s.now) sealing.now))) area.old }
 {
-    let line = LineName::new(line);
-    match pile {
+    let keys = sealing.keys;
+    match keys.pile {
         Pile::A => {
-            let cipher = pile_a(hash_key, expander_key)?;
-            let hash = Polyval::new(header_key)?;
-            recorded(&cipher, &hash, &line, number, header, text, area)
+            let cipher = pile_a(keys.hash_key, keys.expander_key)?;
+            let hash = Polyval::new(sealing.header_key)?;
+            recorded(&cipher, &hash, sealing, area)
         }
         Pile::B => {
-            let cipher = pile_b(hash_key, expander_key)?;
-            let hash = Cmac::new(header_key)?;
-            recorded(&cipher, &hash, &line, number, header, text, area)
+            let cipher = pile_b(keys.hash_key, keys.expander_key)?;
+            let hash = Cmac::new(sealing.header_key)?;
+            recorded(&cipher, &hash, sealing, area)
         }
     }
 }
@@ -303,58 +244,17 @@ pub fn answer(question: &Question<&[u8]>, area: &mut [u8; LONGEST]) -> Result<us
     ensures answer { result ≡ counted (answering (asked (λ s. s.now) question.now)) }
     ensures after { area.new ≡ placed (answering (asked (λ s. s.now) question.now)) area.old }
 {
-    match *question {
-        Question::Aes { key, block } => aes_block(key, &block, area),
-        Question::Polyval { key, string } => polyval(key, string, area),
-        Question::Cmac { key, string } => cmac(key, string, area),
+    match question {
+        Question::Aes { key, block } => aes_block(key, block, area),
+        Question::Hash { kind, key, string } => keyed_hash(*kind, key, string, area),
         Question::ChaCha {
             key,
             counter,
             nonce,
-        } => chacha_block(key, counter, &nonce, area),
-        Question::Subkey { key, input } => derived(key, &input, area),
-        Question::Expand {
-            kind,
-            key,
-            domain,
-            tweak,
-            input,
-            from,
-            length,
-        } => expand(kind, key, domain, &tweak, &input, from, length, area),
-        Question::Encipher {
-            pile,
-            hash_key,
-            expander_key,
-            tweak,
-            string,
-        } => encipher(pile, hash_key, expander_key, &tweak, string, area),
-        Question::Decipher {
-            pile,
-            hash_key,
-            expander_key,
-            tweak,
-            string,
-        } => decipher(pile, hash_key, expander_key, &tweak, string, area),
-        Question::Seal {
-            pile,
-            hash_key,
-            expander_key,
-            header_key,
-            line,
-            number,
-            header,
-            text,
-        } => sealed(
-            pile,
-            hash_key,
-            expander_key,
-            header_key,
-            &line,
-            number,
-            header,
-            text,
-            area,
-        ),
+        } => chacha_block(key, *counter, nonce, area),
+        Question::Subkey { key, input } => derived(key, input, area),
+        Question::Expand(stretch) => expand(stretch, area),
+        Question::Cipher(ciphering) => ciphered(ciphering, area),
+        Question::Seal(sealing) => sealed(sealing, area),
     }
 }

@@ -1,17 +1,24 @@
 // The words of a line, one after another, and what each writes.
-ghost use Rattle.std.specs.Prelude.{◌≡◌, ◌+◌, ◌≤◌, true, length, take, drop, ◌==◌};
+ghost use Rattle.std.specs.Prelude.{◌≡◌, ◌<◌, length, position, ◌==◌, option_map, IfSome};
 ghost use Rattle.forms.specs.Said.{bytes_of, heard};
 ghost use Rattle.forms.specs.Hex.{spelled_by};
-ghost use Rattle.collating.specs.Words.{word as word_of, after, sized, number_of, number_to, pile_of, kind_of, refused, bytes as bytes_scan, outcome_of};
-ghost use Rattle.collating.specs.Heard.{heard_outcome};
+ghost use Rattle.collating.specs.Words.{word as word_of, after, looked_up, of_length, sized, number_of, pile_of, expander_of, outcome_of};
+ghost use Rattle.collating.specs.Questions.{wanted};
 
 use crate::outcome::Outcome;
-use crate::question::Kind;
+use crate::question::ExpanderKind;
 use forms::{Hex, Pile};
 use octets::equal;
 
 // How many digits a number may have.
 const MOST_DIGITS: usize = 13;
+
+const PILES: [(&[u8], Pile); 2] = [(b"a", Pile::A), (b"b", Pile::B)];
+
+const EXPANDERS: [(&[u8], ExpanderKind); 2] = [
+    (b"aes", ExpanderKind::Aes),
+    (b"chacha", ExpanderKind::ChaCha),
+];
 
 // What is left of a line.
 #[derive(Drop)]
@@ -19,18 +26,24 @@ pub(crate) struct Fields<'a> {
     pub(crate) rest: &'a [u8],
 }
 
-// The place of the first space, or the length where there is none.
-fn find_space(line: &[u8]) -> usize
-    ensures within { result ≤ length line.now }
-    ensures before { take result line.now ≡ word_of line.now }
-    ensures behind { drop (result + 1) line.now ≡ after line.now }
+// The place of the first space.
+fn find_space(line: &[u8]) -> Option<usize>
+    ensures place { result ≡ position (λ b. b == 32) line.now }
+    ensures within { IfSome result (λ n. n < length line.now) }
 {
-    for (i, b) in line.iter().enumerate() {
-        if *b == b' ' {
-            return i;
+    line.iter().position(|b| *b == b' ')
+}
+
+// What stands beside the word in a table.
+pub(crate) fn look_up<T: Copy>(word: &[u8], table: &[(&[u8], T)]) -> Option<T>
+    ensures { result ≡ looked_up word.now table.now }
+{
+    for (name, value) in table {
+        if equal(word, name) {
+            return Some(*value);
         }
     }
-    line.len()
+    None
 }
 
 // The number that a word of 1 to 13 decimal digits writes.
@@ -45,10 +58,7 @@ fn decimal(word: &[u8]) -> Option<u64>
     }
     let mut value = 0;
     for c in word {
-        if *c < b'0' {
-            return None;
-        }
-        if *c > b'9' {
+        if !c.is_ascii_digit() {
             return None;
         }
         value = value * 10 + u64::from(*c - b'0');
@@ -56,16 +66,15 @@ fn decimal(word: &[u8]) -> Option<u64>
     Some(value)
 }
 
-// Writes a byte string into an area of its length. Where the lengths differ, it answers `false`.
-fn fill_whole(hex: &Hex<'_>, area: &mut [u8]) -> bool
-    ensures answer { result ≡ (length (bytes_of hex.now) == length area.old) }
-    ensures filled { result ≡ true → area.new ≡ bytes_of hex.now }
+// A byte string of N bytes.
+fn exactly<const N: usize>(hex: &Hex<'_>) -> Option<[u8; N]>
+    ensures { result ≡ of_length N (bytes_of hex.now) }
 {
-    if hex.len() != area.len() {
-        return false;
+    let mut bytes = [0; N];
+    match hex.decode(&mut bytes) {
+        Ok(length) if length == N => Some(bytes),
+        _ => None,
     }
-    let _ = hex.decode(area);
-    true
 }
 
 impl<'a> Fields<'a> {
@@ -75,10 +84,16 @@ impl<'a> Fields<'a> {
         ensures rest { self.new.rest.now ≡ after self.old.rest.now }
     {
         let line = self.rest;
-        let end = find_space(line);
-        let next = line.len().min(end + 1);
-        self.rest = &line[next..];
-        &line[0..end]
+        match find_space(line) {
+            Some(end) => {
+                self.rest = &line[end + 1..];
+                &line[..end]
+            }
+            None => {
+                self.rest = &[];
+                line
+            }
+        }
     }
 
     pub(crate) fn hex(&mut self) -> Option<Hex<'a>>
@@ -88,43 +103,12 @@ impl<'a> Fields<'a> {
         Hex::of(self.word())
     }
 
-    // A byte string of eight bytes.
-    pub(crate) fn eight(&mut self) -> Option<[u8; 8]>
-        ensures value { result ≡ sized 8 (word_of self.old.rest.now) }
+    // A byte string of N bytes.
+    pub(crate) fn bytes<const N: usize>(&mut self) -> Option<[u8; N]>
+        ensures value { result ≡ sized N (word_of self.old.rest.now) }
         ensures rest { self.new.rest.now ≡ after self.old.rest.now }
     {
-        let hex = self.hex()?;
-        let mut bytes = [0; 8];
-        if !fill_whole(&hex, &mut bytes) {
-            return None;
-        }
-        Some(bytes)
-    }
-
-    // A byte string of twelve bytes.
-    pub(crate) fn twelve(&mut self) -> Option<[u8; 12]>
-        ensures value { result ≡ sized 12 (word_of self.old.rest.now) }
-        ensures rest { self.new.rest.now ≡ after self.old.rest.now }
-    {
-        let hex = self.hex()?;
-        let mut bytes = [0; 12];
-        if !fill_whole(&hex, &mut bytes) {
-            return None;
-        }
-        Some(bytes)
-    }
-
-    // A byte string of sixteen bytes.
-    pub(crate) fn sixteen(&mut self) -> Option<[u8; 16]>
-        ensures value { result ≡ sized 16 (word_of self.old.rest.now) }
-        ensures rest { self.new.rest.now ≡ after self.old.rest.now }
-    {
-        let hex = self.hex()?;
-        let mut bytes = [0; 16];
-        if !fill_whole(&hex, &mut bytes) {
-            return None;
-        }
-        Some(bytes)
+        exactly(&self.hex()?)
     }
 
     pub(crate) fn number(&mut self) -> Option<u64>
@@ -134,78 +118,27 @@ impl<'a> Fields<'a> {
         decimal(self.word())
     }
 
-    pub(crate) fn domain(&mut self) -> Option<u8>
-        ensures value { result ≡ number_to 255 (word_of self.old.rest.now) }
-        ensures rest { self.new.rest.now ≡ after self.old.rest.now }
-    {
-        let number = self.number()?;
-        if number > 255 {
-            return None;
-        }
-        Some(number as u8)
-    }
-
-    pub(crate) fn counter(&mut self) -> Option<u32>
-        ensures value { result ≡ number_to 4294967295 (word_of self.old.rest.now) }
-        ensures rest { self.new.rest.now ≡ after self.old.rest.now }
-    {
-        let number = self.number()?;
-        if number > 4294967295 {
-            return None;
-        }
-        Some(number as u32)
-    }
-
     pub(crate) fn pile(&mut self) -> Option<Pile>
         ensures value { result ≡ pile_of (word_of self.old.rest.now) }
         ensures rest { self.new.rest.now ≡ after self.old.rest.now }
     {
-        let word = self.word();
-        if equal(word, b"a") {
-            return Some(Pile::A);
-        }
-        if equal(word, b"b") {
-            return Some(Pile::B);
-        }
-        None
+        look_up(self.word(), &PILES)
     }
 
-    pub(crate) fn kind(&mut self) -> Option<Kind>
-        ensures value { result ≡ kind_of (word_of self.old.rest.now) }
+    pub(crate) fn expander(&mut self) -> Option<ExpanderKind>
+        ensures value { result ≡ expander_of (word_of self.old.rest.now) }
         ensures rest { self.new.rest.now ≡ after self.old.rest.now }
     {
-        let word = self.word();
-        if equal(word, b"aes") {
-            return Some(Kind::Aes);
-        }
-        if equal(word, b"chacha") {
-            return Some(Kind::ChaCha);
-        }
-        None
+        look_up(self.word(), &EXPANDERS)
     }
-}
-
-fn refusal(digits: &[u8]) -> Option<Outcome<Hex<'_>>>
-    ensures { heard_outcome result ≡ refused digits.now }
-{
-    Some(Outcome::Refused(decimal(digits)?))
-}
-
-fn bytes(word: &[u8]) -> Option<Outcome<Hex<'_>>>
-    ensures { heard_outcome result ≡ bytes_scan word.now }
-{
-    Some(Outcome::Bytes(Hex::of(word)?))
 }
 
 // The outcome that a word writes: a byte string, or `!` and a number.
 pub(crate) fn outcome(word: &[u8]) -> Option<Outcome<Hex<'_>>>
-    ensures { heard_outcome result ≡ outcome_of word.now }
+    ensures { option_map (wanted bytes_of) result ≡ outcome_of word.now }
 {
-    if word.is_empty() {
-        return None;
+    match word {
+        [b'!', digits @ ..] => Some(Outcome::Refused(decimal(digits)?)),
+        _ => Some(Outcome::Bytes(Hex::of(word)?)),
     }
-    if word[0] == b'!' {
-        return refusal(&word[1..]);
-    }
-    bytes(word)
 }

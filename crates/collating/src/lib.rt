@@ -10,8 +10,10 @@ mod reading;
 mod report;
 
 pub use answering::{LONGEST, answer};
-pub use judging::{LONGEST_STRING, judge, passed_over};
+pub use judging::{Areas, LONGEST_STRING, judge, passed_over};
 pub use outcome::Outcome;
-pub use question::{Kind, Question, Vector};
+pub use question::{
+    CipherKeys, Ciphering, Direction, ExpanderKind, HashKind, Question, Sealing, Stretch, Vector,
+};
 pub use reading::read;
 pub use report::{Report, Verdict};

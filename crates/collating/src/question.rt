@@ -2,11 +2,65 @@
 use crate::outcome::Outcome;
 use forms::Pile;
 
+// Which keyed hash is asked.
+#[derive(Clone, Copy)]
+pub enum HashKind {
+    Polyval,
+    Cmac,
+}
+
 // Which expander is asked.
 #[derive(Clone, Copy)]
-pub enum Kind {
+pub enum ExpanderKind {
     Aes,
     ChaCha,
+}
+
+// Which way a wide cipher goes.
+#[derive(Clone, Copy)]
+pub enum Direction {
+    Encipher,
+    Decipher,
+}
+
+// The keys of a pile's cipher.
+#[derive(Clone, Copy)]
+pub struct CipherKeys<S> {
+    pub pile: Pile,
+    pub hash_key: S,
+    pub expander_key: S,
+}
+
+// A stretch of the sequence of an expander.
+#[derive(Clone, Copy)]
+pub struct Stretch<S> {
+    pub kind: ExpanderKind,
+    pub key: S,
+    pub domain: u8,
+    pub tweak: [u8; 8],
+    pub input: [u8; 16],
+    pub from: u64,
+    pub count: u64,
+}
+
+// A string, one way through the cipher of a pile.
+#[derive(Clone, Copy)]
+pub struct Ciphering<S> {
+    pub direction: Direction,
+    pub keys: CipherKeys<S>,
+    pub tweak: [u8; 8],
+    pub string: S,
+}
+
+// A text, sealed by plain seal.
+#[derive(Clone, Copy)]
+pub struct Sealing<S> {
+    pub keys: CipherKeys<S>,
+    pub header_key: S,
+    pub line: [u8; 8],
+    pub number: u64,
+    pub header: S,
+    pub text: S,
 }
 
 // What the library is asked for. A byte string of any length is an `S`.
@@ -17,12 +71,9 @@ pub enum Question<S> {
         key: S,
         block: [u8; 16],
     },
-    // The keyed hash by POLYVAL.
-    Polyval {
-        key: S,
-        string: S,
-    },
-    Cmac {
+    // A keyed hash.
+    Hash {
+        kind: HashKind,
         key: S,
         string: S,
     },
@@ -37,41 +88,9 @@ pub enum Question<S> {
         key: S,
         input: [u8; 16],
     },
-    // A stretch of the sequence of an expander.
-    Expand {
-        kind: Kind,
-        key: S,
-        domain: u8,
-        tweak: [u8; 8],
-        input: [u8; 16],
-        from: u64,
-        length: u64,
-    },
-    Encipher {
-        pile: Pile,
-        hash_key: S,
-        expander_key: S,
-        tweak: [u8; 8],
-        string: S,
-    },
-    Decipher {
-        pile: Pile,
-        hash_key: S,
-        expander_key: S,
-        tweak: [u8; 8],
-        string: S,
-    },
-    // A record by plain seal.
-    Seal {
-        pile: Pile,
-        hash_key: S,
-        expander_key: S,
-        header_key: S,
-        line: [u8; 8],
-        number: u64,
-        header: S,
-        text: S,
-    },
+    Expand(Stretch<S>),
+    Cipher(Ciphering<S>),
+    Seal(Sealing<S>),
 }
 
 // A question with the outcome that is expected.

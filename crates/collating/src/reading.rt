@@ -1,10 +1,13 @@
 // A line, read.
-ghost use Rattle.std.specs.Prelude.{◌≡◌};
-ghost use Rattle.collating.specs.Heard.{took, heard_vector};
-ghost use Rattle.collating.specs.Reading.{form_of, aes as aes_form, polyval as polyval_form, cmac as cmac_form, chacha as chacha_form, subkey as subkey_form, expand as expand_form, encipher as encipher_form, decipher as decipher_form, seal as seal_form, question as question_form, reading};
+ghost use Rattle.std.specs.Prelude.{◌≡◌, option_map};
+ghost use Rattle.forms.specs.Said.{bytes_of};
+ghost use Rattle.collating.specs.Questions.{asked, keys_with, stretch_with, ciphering_with, sealing_with, told};
+ghost use Rattle.collating.specs.Reading.{took, form_of, aes as aes_form, hash as hash_form, chacha as chacha_form, subkey as subkey_form, cipher_keys as keys_form, stretch as stretch_form, ciphering as ciphering_form, sealing as sealing_form, question as question_form, reading};
 
-use crate::fields::{Fields, outcome};
-use crate::question::{Question, Vector};
+use crate::fields::{Fields, look_up, outcome};
+use crate::question::{
+    CipherKeys, Ciphering, Direction, HashKind, Question, Sealing, Stretch, Vector,
+};
 use forms::Hex;
 use octets::equal;
 
@@ -12,194 +15,138 @@ use octets::equal;
 #[derive(Clone, Copy)]
 enum Form {
     Aes,
-    Polyval,
-    Cmac,
+    Hash(HashKind),
     ChaCha,
     Subkey,
     Expand,
-    Encipher,
-    Decipher,
+    Cipher(Direction),
     Seal,
 }
+
+const FORMS: [(&[u8], Form); 9] = [
+    (b"aes", Form::Aes),
+    (b"polyval", Form::Hash(HashKind::Polyval)),
+    (b"cmac", Form::Hash(HashKind::Cmac)),
+    (b"chacha", Form::ChaCha),
+    (b"subkey", Form::Subkey),
+    (b"expand", Form::Expand),
+    (b"encipher", Form::Cipher(Direction::Encipher)),
+    (b"decipher", Form::Cipher(Direction::Decipher)),
+    (b"seal", Form::Seal),
+];
 
 fn asked_form(word: &[u8]) -> Option<Form>
     ensures { result ≡ form_of word.now }
 {
-    if equal(word, b"aes") {
-        return Some(Form::Aes);
-    }
-    if equal(word, b"polyval") {
-        return Some(Form::Polyval);
-    }
-    if equal(word, b"cmac") {
-        return Some(Form::Cmac);
-    }
-    if equal(word, b"chacha") {
-        return Some(Form::ChaCha);
-    }
-    if equal(word, b"subkey") {
-        return Some(Form::Subkey);
-    }
-    if equal(word, b"expand") {
-        return Some(Form::Expand);
-    }
-    if equal(word, b"encipher") {
-        return Some(Form::Encipher);
-    }
-    if equal(word, b"decipher") {
-        return Some(Form::Decipher);
-    }
-    if equal(word, b"seal") {
-        return Some(Form::Seal);
-    }
-    None
+    look_up(word, &FORMS)
 }
 
 fn aes<'a>(fields: &mut Fields<'a>) -> Option<Question<Hex<'a>>>
-    ensures { took result fields.new.rest.now ≡ aes_form fields.old.rest.now }
+    ensures { took (asked bytes_of) result fields.new.rest.now ≡ aes_form fields.old.rest.now }
 {
-    let key = fields.hex()?;
-    let block = fields.sixteen()?;
-    Some(Question::Aes { key, block })
+    Some(Question::Aes {
+        key: fields.hex()?,
+        block: fields.bytes()?,
+    })
 }
 
-fn polyval<'a>(fields: &mut Fields<'a>) -> Option<Question<Hex<'a>>>
-    ensures { took result fields.new.rest.now ≡ polyval_form fields.old.rest.now }
+fn hash<'a>(kind: HashKind, fields: &mut Fields<'a>) -> Option<Question<Hex<'a>>>
+    ensures { took (asked bytes_of) result fields.new.rest.now ≡ hash_form kind fields.old.rest.now }
 {
-    let key = fields.hex()?;
-    let string = fields.hex()?;
-    Some(Question::Polyval { key, string })
-}
-
-fn cmac<'a>(fields: &mut Fields<'a>) -> Option<Question<Hex<'a>>>
-    ensures { took result fields.new.rest.now ≡ cmac_form fields.old.rest.now }
-{
-    let key = fields.hex()?;
-    let string = fields.hex()?;
-    Some(Question::Cmac { key, string })
+    Some(Question::Hash {
+        kind,
+        key: fields.hex()?,
+        string: fields.hex()?,
+    })
 }
 
 fn chacha<'a>(fields: &mut Fields<'a>) -> Option<Question<Hex<'a>>>
-    ensures { took result fields.new.rest.now ≡ chacha_form fields.old.rest.now }
+    ensures { took (asked bytes_of) result fields.new.rest.now ≡ chacha_form fields.old.rest.now }
 {
-    let key = fields.hex()?;
-    let counter = fields.counter()?;
-    let nonce = fields.twelve()?;
     Some(Question::ChaCha {
-        key,
-        counter,
-        nonce,
+        key: fields.hex()?,
+        counter: u32::try_from(fields.number()?).ok()?,
+        nonce: fields.bytes()?,
     })
 }
 
 fn subkey<'a>(fields: &mut Fields<'a>) -> Option<Question<Hex<'a>>>
-    ensures { took result fields.new.rest.now ≡ subkey_form fields.old.rest.now }
+    ensures { took (asked bytes_of) result fields.new.rest.now ≡ subkey_form fields.old.rest.now }
 {
-    let key = fields.hex()?;
-    let input = fields.sixteen()?;
-    Some(Question::Subkey { key, input })
-}
-
-fn expand<'a>(fields: &mut Fields<'a>) -> Option<Question<Hex<'a>>>
-    ensures { took result fields.new.rest.now ≡ expand_form fields.old.rest.now }
-{
-    let kind = fields.kind()?;
-    let key = fields.hex()?;
-    let domain = fields.domain()?;
-    let tweak = fields.eight()?;
-    let input = fields.sixteen()?;
-    let from = fields.number()?;
-    let length = fields.number()?;
-    Some(Question::Expand {
-        kind,
-        key,
-        domain,
-        tweak,
-        input,
-        from,
-        length,
+    Some(Question::Subkey {
+        key: fields.hex()?,
+        input: fields.bytes()?,
     })
 }
 
-fn encipher<'a>(fields: &mut Fields<'a>) -> Option<Question<Hex<'a>>>
-    ensures { took result fields.new.rest.now ≡ encipher_form fields.old.rest.now }
+fn stretch<'a>(fields: &mut Fields<'a>) -> Option<Stretch<Hex<'a>>>
+    ensures { took (stretch_with bytes_of) result fields.new.rest.now ≡ stretch_form fields.old.rest.now }
 {
-    let pile = fields.pile()?;
-    let hash_key = fields.hex()?;
-    let expander_key = fields.hex()?;
-    let tweak = fields.eight()?;
-    let string = fields.hex()?;
-    Some(Question::Encipher {
-        pile,
-        hash_key,
-        expander_key,
-        tweak,
-        string,
+    Some(Stretch {
+        kind: fields.expander()?,
+        key: fields.hex()?,
+        domain: u8::try_from(fields.number()?).ok()?,
+        tweak: fields.bytes()?,
+        input: fields.bytes()?,
+        from: fields.number()?,
+        count: fields.number()?,
     })
 }
 
-fn decipher<'a>(fields: &mut Fields<'a>) -> Option<Question<Hex<'a>>>
-    ensures { took result fields.new.rest.now ≡ decipher_form fields.old.rest.now }
+fn cipher_keys<'a>(fields: &mut Fields<'a>) -> Option<CipherKeys<Hex<'a>>>
+    ensures { took (keys_with bytes_of) result fields.new.rest.now ≡ keys_form fields.old.rest.now }
 {
-    let pile = fields.pile()?;
-    let hash_key = fields.hex()?;
-    let expander_key = fields.hex()?;
-    let tweak = fields.eight()?;
-    let string = fields.hex()?;
-    Some(Question::Decipher {
-        pile,
-        hash_key,
-        expander_key,
-        tweak,
-        string,
+    Some(CipherKeys {
+        pile: fields.pile()?,
+        hash_key: fields.hex()?,
+        expander_key: fields.hex()?,
     })
 }
 
-fn seal<'a>(fields: &mut Fields<'a>) -> Option<Question<Hex<'a>>>
-    ensures { took result fields.new.rest.now ≡ seal_form fields.old.rest.now }
+fn ciphering<'a>(direction: Direction, fields: &mut Fields<'a>) -> Option<Ciphering<Hex<'a>>>
+    ensures { took (ciphering_with bytes_of) result fields.new.rest.now ≡ ciphering_form direction fields.old.rest.now }
 {
-    let pile = fields.pile()?;
-    let hash_key = fields.hex()?;
-    let expander_key = fields.hex()?;
-    let header_key = fields.hex()?;
-    let line = fields.eight()?;
-    let number = fields.number()?;
-    let header = fields.hex()?;
-    let text = fields.hex()?;
-    Some(Question::Seal {
-        pile,
-        hash_key,
-        expander_key,
-        header_key,
-        line,
-        number,
-        header,
-        text,
+    Some(Ciphering {
+        direction,
+        keys: cipher_keys(fields)?,
+        tweak: fields.bytes()?,
+        string: fields.hex()?,
     })
 }
 
-fn any_form<'a>(fields: &mut Fields<'a>) -> Option<Question<Hex<'a>>>
-    ensures { took result fields.new.rest.now ≡ question_form fields.old.rest.now }
+fn sealing<'a>(fields: &mut Fields<'a>) -> Option<Sealing<Hex<'a>>>
+    ensures { took (sealing_with bytes_of) result fields.new.rest.now ≡ sealing_form fields.old.rest.now }
+{
+    Some(Sealing {
+        keys: cipher_keys(fields)?,
+        header_key: fields.hex()?,
+        line: fields.bytes()?,
+        number: fields.number()?,
+        header: fields.hex()?,
+        text: fields.hex()?,
+    })
+}
+
+fn question<'a>(fields: &mut Fields<'a>) -> Option<Question<Hex<'a>>>
+    ensures { took (asked bytes_of) result fields.new.rest.now ≡ question_form fields.old.rest.now }
 {
     match asked_form(fields.word())? {
         Form::Aes => aes(fields),
-        Form::Polyval => polyval(fields),
-        Form::Cmac => cmac(fields),
+        Form::Hash(kind) => hash(kind, fields),
         Form::ChaCha => chacha(fields),
         Form::Subkey => subkey(fields),
-        Form::Expand => expand(fields),
-        Form::Encipher => encipher(fields),
-        Form::Decipher => decipher(fields),
-        Form::Seal => seal(fields),
+        Form::Expand => Some(Question::Expand(stretch(fields)?)),
+        Form::Cipher(direction) => Some(Question::Cipher(ciphering(direction, fields)?)),
+        Form::Seal => Some(Question::Seal(sealing(fields)?)),
     }
 }
 
 // Reads a line.
 pub fn read(line: &[u8]) -> Option<Vector<Hex<'_>>>
-    ensures { heard_vector result ≡ reading line.now }
+    ensures { option_map (told bytes_of) result ≡ reading line.now }
 {
     let mut fields = Fields { rest: line };
-    let question = any_form(&mut fields)?;
+    let question = question(&mut fields)?;
     if !equal(fields.word(), b"=") {
         return None;
     }

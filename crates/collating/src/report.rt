@@ -1,43 +1,44 @@
 // What is told of a line.
-ghost use Rattle.std.specs.Prelude.{Some};
-ghost use Rattle.collating.specs.Reports.{Tells, spelled};
+ghost use Rattle.std.specs.Prelude.{◌≡◌, Some, take};
+ghost use Rattle.collating.specs.Reports.{judged_with, spelled};
 
 use crate::outcome::Outcome;
 use std::fmt;
 
-// How a line was judged, before the bytes are taken out of their area.
+// How a line was judged. Bytes that the library gave are an `S`, or how many they are.
 #[derive(Clone, Copy)]
-pub enum Verdict {
+pub enum Verdict<S> {
     // The library gave what was expected.
     Same,
-    // It gave other bytes, or bytes in place of a refusal: this many.
-    Bytes(usize),
-    // It refused by this number in place of another, or in place of bytes.
-    Refused(u64),
+    // It gave this in place of what was expected.
+    Differs(Outcome<S>),
     Unread,
 }
 
-// What is printed, with the number of the line.
+// What is printed of the line with a number.
 #[derive(Clone, Copy)]
-pub enum Report<'a> {
-    Same(u64),
-    Differs(u64, Outcome<&'a [u8]>),
-    Unread(u64),
+pub struct Report<'a> {
+    pub line: u64,
+    pub verdict: Verdict<&'a [u8]>,
 }
 
-impl Verdict {
+impl Verdict<usize> {
     // What is told of the line with this number, where bytes that the library gave stand at the front of `out`.
     pub fn report<'a>(&self, line: u64, out: &'a [u8]) -> Report<'a>
-        ensures { Tells self.now line out.now result }
+        ensures line { result.line ≡ line }
+        ensures verdict { judged_with (λ s. s.now) result.verdict ≡ judged_with (λ n. take n out.now) self.now }
     {
-        match *self {
-            Verdict::Same => Report::Same(line),
-            Verdict::Bytes(length) => {
-                Report::Differs(line, Outcome::Bytes(&out[0..length.min(out.len())]))
+        let verdict = match *self {
+            Verdict::Same => Verdict::Same,
+            Verdict::Differs(Outcome::Bytes(length)) => {
+                Verdict::Differs(Outcome::Bytes(&out[..length.min(out.len())]))
             }
-            Verdict::Refused(number) => Report::Differs(line, Outcome::Refused(number)),
-            Verdict::Unread => Report::Unread(line),
-        }
+            Verdict::Differs(Outcome::Refused(number)) => {
+                Verdict::Differs(Outcome::Refused(number))
+            }
+            Verdict::Unread => Verdict::Unread,
+        };
+        Report { line, verdict }
     }
 }
 
@@ -45,10 +46,11 @@ impl fmt::Display for Report<'_> {
     ghost output = { λ r. Some (spelled r) };
 
     fn fmt<W: fmt::Write>(&self, f: &mut fmt::Formatter<W>) -> fmt::Result {
-        match self {
-            Report::Same(line) => write!(f, "ok {line}"),
-            Report::Differs(line, got) => write!(f, "differs {line} {got}"),
-            Report::Unread(line) => write!(f, "unread {line}"),
+        let line = self.line;
+        match self.verdict {
+            Verdict::Same => write!(f, "ok {line}"),
+            Verdict::Differs(got) => write!(f, "differs {line} {got}"),
+            Verdict::Unread => write!(f, "unread {line}"),
         }
     }
 }

@@ -18,11 +18,10 @@ impl Count {
         }
     }
 
-    pub fn add(&mut self, verdict: Verdict) {
+    pub fn add(&mut self, verdict: Verdict<usize>) {
         match verdict {
             Verdict::Same => self.same = self.same.saturating_add(1),
-            Verdict::Bytes(_) => self.differ = self.differ.saturating_add(1),
-            Verdict::Refused(_) => self.differ = self.differ.saturating_add(1),
+            Verdict::Differs(_) => self.differ = self.differ.saturating_add(1),
             Verdict::Unread => self.unread = self.unread.saturating_add(1),
         }
     }

@@ -4,7 +4,7 @@
 mod count;
 
 use anyhow::anyhow;
-use collating::{LONGEST, LONGEST_STRING, judge, passed_over};
+use collating::{Areas, LONGEST, judge, passed_over};
 use count::Count;
 use std::alloc::Global;
 use std::io::{BufRead, BufReader, BufWriter, Read, Write};
@@ -29,12 +29,8 @@ fn judge_lines<R: Read, W: Write + Drop>(
 ) -> anyhow::Result<Count> {
     let mut count = Count::new();
     let mut line = Vec::new(heap);
-    let mut first = [0; LONGEST_STRING];
-    let mut second = [0; LONGEST_STRING];
-    let mut third = [0; LONGEST_STRING];
-    let mut fourth = [0; LONGEST_STRING];
-    let mut fifth = [0; LONGEST_STRING];
-    let mut area = [0; LONGEST];
+    let mut areas = Areas::new();
+    let mut answer = [0; LONGEST];
     for number in 1..u64::MAX {
         if input.buffer().is_empty() {
             out.flush()?;
@@ -45,17 +41,9 @@ fn judge_lines<R: Read, W: Write + Drop>(
         if passed_over(line.as_slice()) {
             continue;
         }
-        let verdict = judge(
-            line.as_slice(),
-            &mut first,
-            &mut second,
-            &mut third,
-            &mut fourth,
-            &mut fifth,
-            &mut area,
-        );
+        let verdict = judge(line.as_slice(), &mut areas, &mut answer);
         count.add(verdict);
-        writeln!(out, "{}", verdict.report(number, &area))?;
+        writeln!(out, "{}", verdict.report(number, &answer))?;
     }
     Ok(count)
 }

@@ -1,16 +1,15 @@
-use Rattle.std.proofs.Common.{length, refl}
+use Rattle.std.proofs.Common.{ℕ, List, length, refl, ap, ◌∙◌}
 use Rattle.sealing.specs.Meaning.{meaning}
 use Rattle.sealing.specs.Sealing.{record_of}
+use Rattle.collating.specs.Answers.{counted, recording}
 use Rattle.collating.proofs.Recording.{recorded}
 use Rattle.collating.proofs.answering.recorded.Goals as goal
 
-pub returns : goal.returns
-returns g c =
-    let k = c.in_ok-seal.field-0 in
-    let m = meaning g.C.WideCipher g.J.KeyedHash c.args.cipher.now c.args.hash.now c.args.line.now.bytes in
-    let header = c.args.header.now in
-    let text = c.args.text.now in
-    let n = c.args.number in
-    let is = (c.in_ok-seal.ensures.sealed k refl).is in
-    let done = recorded m n (length header) (length text) 4120 k (record_of m header n text) c.args.area.now c.seal.new.area c.in_ok-seal.ensures.answer c.told-area c.seal.auto.area is c.in_ok-seal.ensures.after in
-    record { answer = done.0; after = done.1 }
+pub returns-clause-answer : goal.returns-clause-answer
+returns-clause-answer g c =
+    let k = c.in_ok-length.length in
+    let s = c.args.sealing.now in
+    let m = meaning g.C.WideCipher g.J.KeyedHash c.args.cipher.now c.args.hash.now c.new-line.result.bytes in
+    let is = (c.in_ok-length.ensures.sealed k refl).is in
+    recorded m s.number (length s.header.now) (length s.text.now) 4120 k (record_of m s.header.now s.number s.text.now) c.args.area.now c.seal.new.area c.in_ok-length.ensures.answer c.told-area c.seal.auto.area is
+    ∙ ap (λ (l : List ℕ). counted (recording (meaning g.C.WideCipher g.J.KeyedHash c.args.cipher.now c.args.hash.now l) s.number s.header.now s.text.now)) c.new-line.ensures

@@ -1,9 +1,8 @@
-use Rattle.std.proofs.Common.{◌≡◌, ◌-◌, take, ap, ◌∙◌, arith}
-use Rattle.collating.proofs.Spaces.{left}
+use Rattle.collating.proofs.Spaces.{before, behind, all, nothing}
 use Rattle.collating.proofs.fields.Fields.word.Goals as goal
 
-pub returns : goal.returns
-returns c =
-    let line = c.args.self.now.rest.now in
-    let all : c.find_space-end.result - 0 ≡ c.find_space-end.result = omega arith in
-    record { value = ap (λ n. take n line) all ∙ c.find_space-end.ensures.before; rest = left line c.find_space-end.result c.min-next.result c.min-next.ensures c.find_space-end.ensures.behind }
+pub returns-in-Some : goal.returns-in-Some
+returns-in-Some c = record { value = before c.args.self.now.rest.now c.in-Some.end c.in-Some.ensures.place; rest = behind c.args.self.now.rest.now c.in-Some.end c.in-Some.ensures.place }
+
+pub returns-in-None : goal.returns-in-None
+returns-in-None c = record { value = all c.args.self.now.rest.now c.in-None.ensures.place; rest = nothing c.args.self.now.rest.now c.in-None.ensures.place }
