@@ -26,10 +26,10 @@ fn answer_lines<C: WideCipher, J: KeyedHash, R: Read, W: Write + Drop>(
         if lines.waits() {
             out.flush()?;
         }
-        if !lines.advance()? {
+        let Some(line) = lines.next_line()? else {
             break;
-        }
-        let reply = hall.step(lines.line(), &mut header, &mut body, &mut work, &mut area);
+        };
+        let reply = hall.step(line, &mut header, &mut body, &mut work, &mut area);
         writeln!(out, "{}", reply.answer(&area))?;
     }
     Ok(())
@@ -65,10 +65,10 @@ fn serve<R: Read, W: Write + Drop>(
 fn run(rt: &HostRuntime) -> anyhow::Result<()> {
     let mut lines = Lines::new(rt.alloc(), rt.stdin(), KEPT)?;
     let mut out = BufWriter::new(rt.alloc(), rt.stdout())?;
-    if !lines.advance()? {
+    let Some(first) = lines.next_line()? else {
         return Ok(());
-    }
-    match open(lines.line()) {
+    };
+    match open(first) {
         Ok(opened) => serve(opened, &mut lines, &mut out)?,
         Err(reply) => writeln!(out, "{}", reply.answer(&[]))?,
     }
