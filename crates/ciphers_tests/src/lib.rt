@@ -3,7 +3,7 @@
 
 #[cfg(test)]
 mod tests {
-    use ciphers::{CipherFault, PileA, PileB, WideCipher, pile_a, pile_b};
+    use ciphers::{CipherFault, PileA, PileB, WideCipher};
     use octets::equal;
     use refusals::{KeyLength, Place, Reason, Refusal};
     use std::process::Abort;
@@ -23,15 +23,15 @@ mod tests {
     }
 
     fn aes128() -> Result<PileA, KeyLength> {
-        pile_a(&counted::<16>(0), &counted::<16>(0x10))
+        PileA::from_keys(&counted::<16>(0), &counted::<16>(0x10))
     }
 
     fn aes256() -> Result<PileA, KeyLength> {
-        pile_a(&counted::<16>(0), &counted::<32>(0x40))
+        PileA::from_keys(&counted::<16>(0), &counted::<32>(0x40))
     }
 
     fn chacha() -> Result<PileB, KeyLength> {
-        pile_b(&counted::<16>(0), &counted::<32>(0x80))
+        PileB::from_keys(&counted::<16>(0), &counted::<32>(0x80))
     }
 
     // Whether the bytes that count up from 7 are enciphered to `expected`, and back.

@@ -1,5 +1,4 @@
 pub mod Questions
-pub mod Keys
 pub mod Answers
 pub mod Words
 pub mod Reading

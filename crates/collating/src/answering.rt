@@ -1,23 +1,24 @@
 // A question, answered by the library.
-ghost use Rattle.std.specs.Prelude.{◌≡◌, ℕ, ◌+◌, ◌≤◌, true, List, ◌++◌, length, take, drop};
+ghost use Rattle.std.specs.Prelude.{◌≡◌, ◌==◌, ℕ, ◌+◌, ◌≤◌, true, List, ◌++◌, length, take, drop};
 ghost use Rattle.octets.specs.Strings.{zeros};
 ghost use Rattle.expanders.specs.Refusals.{adding};
 ghost use Rattle.ciphers.specs.Refusals.{verdict, kept};
-ghost use Rattle.sealing.specs.Meaning.{meaning};
+ghost use Rattle.sealing.specs.Meaning.{meaning_of};
 ghost use Rattle.collating.specs.Answers.{answering, counted, placed, stretching, stretch_of, directed, through, recording};
 ghost use Rattle.collating.specs.Questions.{asked, stretch_with, ciphering_with, sealing_with};
 ghost use Rattle.collating.specs.declared.question.Question.TheVariants.{Aes, Hash, ChaCha, Subkey, Expand, Cipher, Seal};
-ghost use Rattle.collating.specs.Keys.{ChaChaKey};
+ghost use Rattle.from_key.specs.Taken.{held, taken};
 
 use crate::question::{Ciphering, Direction, ExpanderKind, HashKind, Question, Sealing, Stretch};
 use aes::AesKey;
 use chacha::{block, subkey};
-use ciphers::{CipherFault, WideCipher, pile_a, pile_b};
+use ciphers::{CipherFault, PileA, PileB, WideCipher};
 use expanders::{AesExpander, ChaChaExpander, Expander};
 use forms::Pile;
+use from_key::FromKey;
 use hashes::{Cmac, KeyedHash, Polyval};
 use refusals::{KeyLength, Refusal};
-use sealing::{LineName, seal};
+use sealing::{Line, LineName};
 
 // The longest answer: the record of a text of 4,096 bytes.
 pub const LONGEST: usize = 4120;
@@ -58,7 +59,7 @@ fn keyed_hash(kind: HashKind, key: &[u8], string: &[u8], area: &mut Area) -> Res
 
 // The key of ChaCha20. Any length but 32 is refused.
 fn chacha_key(key: &[u8]) -> Result<[u8; 32], KeyLength>
-    ensures { ChaChaKey key.now result }
+    ensures { held (λ k. k) result ≡ taken (λ n. (n == 32)) key.now }
 {
     <[u8; 32]>::try_from(key).map_err(|_| KeyLength(key.len()))
 }
@@ -187,11 +188,11 @@ fn ciphered(ciphering: &Ciphering<&[u8]>, area: &mut Area) -> Result<usize, Refu
     } = *ciphering;
     match keys.pile {
         Pile::A => {
-            let cipher = pile_a(keys.hash_key, keys.expander_key)?;
+            let cipher = PileA::from_keys(keys.hash_key, keys.expander_key)?;
             through(&cipher, direction, &tweak, string, area)
         }
         Pile::B => {
-            let cipher = pile_b(keys.hash_key, keys.expander_key)?;
+            let cipher = PileB::from_keys(keys.hash_key, keys.expander_key)?;
             through(&cipher, direction, &tweak, string, area)
         }
     }
@@ -199,42 +200,32 @@ fn ciphered(ciphering: &Ciphering<&[u8]>, area: &mut Area) -> Result<usize, Refu
 
 // The record of a text.
 fn recorded<C: WideCipher, J: KeyedHash>(
-    cipher: &C,
-    hash: &J,
+    line: &Line<C, J>,
     sealing: &Sealing<&[u8]>,
     area: &mut Area,
 ) -> Result<usize, Refusal>
-    ensures answer { result ≡ counted (recording (meaning C.WideCipher J.KeyedHash cipher.now hash.now sealing.now.line) sealing.now.number sealing.now.header.now sealing.now.text.now) }
-    ensures after { area.new ≡ placed (recording (meaning C.WideCipher J.KeyedHash cipher.now hash.now sealing.now.line) sealing.now.number sealing.now.header.now sealing.now.text.now) area.old }
+    ensures answer { result ≡ counted (recording (meaning_of C.WideCipher J.KeyedHash line.now) sealing.now.number sealing.now.header.now sealing.now.text.now) }
+    ensures after { area.new ≡ placed (recording (meaning_of C.WideCipher J.KeyedHash line.now) sealing.now.number sealing.now.header.now sealing.now.text.now) area.old }
 {
-    let line = LineName::new(&sealing.line);
-    let length = seal(
-        cipher,
-        hash,
-        &line,
-        sealing.number,
-        sealing.header,
-        sealing.text,
-        area,
-    )?;
-    Ok(length)
+    Ok(line.seal(sealing.number, sealing.header, sealing.text, area)?)
 }
 
 fn sealed(sealing: &Sealing<&[u8]>, area: &mut Area) -> Result<usize, Refusal>
     ensures answer { result ≡ counted (answering (Seal (sealing_with (λ s. s.now) sealing.now))) }
     ensures after { area.new ≡ placed (answering (Seal (sealing_with (λ s. s.now) sealing.now))) area.old }
 {
+    let name = LineName::new(&sealing.line);
     let keys = sealing.keys;
     match keys.pile {
         Pile::A => {
-            let cipher = pile_a(keys.hash_key, keys.expander_key)?;
+            let cipher = PileA::from_keys(keys.hash_key, keys.expander_key)?;
             let hash = Polyval::new(sealing.header_key)?;
-            recorded(&cipher, &hash, sealing, area)
+            recorded(&Line { cipher, hash, name }, sealing, area)
         }
         Pile::B => {
-            let cipher = pile_b(keys.hash_key, keys.expander_key)?;
+            let cipher = PileB::from_keys(keys.hash_key, keys.expander_key)?;
             let hash = Cmac::new(sealing.header_key)?;
-            recorded(&cipher, &hash, sealing, area)
+            recorded(&Line { cipher, hash, name }, sealing, area)
         }
     }
 }

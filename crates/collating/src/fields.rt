@@ -100,7 +100,7 @@ impl<'a> Fields<'a> {
         ensures value { heard result ≡ spelled_by (word_of self.old.rest.now) }
         ensures rest { self.new.rest.now ≡ after self.old.rest.now }
     {
-        Hex::of(self.word())
+        Hex::try_from(self.word()).ok()
     }
 
     // A byte string of N bytes.
@@ -139,6 +139,6 @@ pub(crate) fn outcome(word: &[u8]) -> Option<Outcome<Hex<'_>>>
 {
     match word {
         [b'!', digits @ ..] => Some(Outcome::Refused(decimal(digits)?)),
-        _ => Some(Outcome::Bytes(Hex::of(word)?)),
+        _ => Some(Outcome::Bytes(Hex::try_from(word).ok()?)),
     }
 }

@@ -5,6 +5,7 @@
 mod tests {
     use chacha::block;
     use expanders::{AesExpander, ChaChaExpander, Expander, ExpanderFault, PastReach};
+    use from_key::FromKey;
     use octets::{add_at, equal};
     use refusals::KeyLength;
     use std::process::Abort;

@@ -3,7 +3,7 @@
 
 use ciphers::WideCipher;
 use forms::Answer;
-use hall::{Hall, Opened, open};
+use hall::{Areas, Hall, Opened, open};
 use hashes::KeyedHash;
 use lines::Lines;
 use std::io::{BufWriter, Read, Write};
@@ -17,10 +17,7 @@ fn answer_lines<C: WideCipher, J: KeyedHash, R: Read, W: Write + Drop>(
     lines: &mut Lines<R>,
     out: &mut BufWriter<W>,
 ) -> anyhow::Result<()> {
-    let mut header = [0; 8192];
-    let mut body = [0; 8192];
-    let mut work = [0; 8192];
-    let mut area = [0; 8192];
+    let mut areas = Areas::new();
     writeln!(out, "{}", Answer::Ready)?;
     for _ in 0..u64::MAX {
         if lines.waits() {
@@ -29,8 +26,8 @@ fn answer_lines<C: WideCipher, J: KeyedHash, R: Read, W: Write + Drop>(
         let Some(line) = lines.next_line()? else {
             break;
         };
-        let reply = hall.step(line, &mut header, &mut body, &mut work, &mut area);
-        writeln!(out, "{}", reply.answer(&area))?;
+        let reply = hall.step(line, &mut areas);
+        writeln!(out, "{}", reply.answer(&areas.out))?;
     }
     Ok(())
 }
