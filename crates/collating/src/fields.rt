@@ -85,7 +85,7 @@ impl<'a> Fields<'a> {
         ensures value { heard result ≡ spelled_by (word_of self.old.rest.now) }
         ensures rest { self.new.rest.now ≡ after self.old.rest.now }
     {
-        Hex::of(self.word())
+        Hex::try_from(self.word()).ok()
     }
 
     // A byte string of eight bytes.
@@ -194,7 +194,7 @@ fn refusal(digits: &[u8]) -> Option<Outcome<Hex<'_>>>
 fn bytes(word: &[u8]) -> Option<Outcome<Hex<'_>>>
     ensures { heard_outcome result ≡ bytes_scan word.now }
 {
-    Some(Outcome::Bytes(Hex::of(word)?))
+    Some(Outcome::Bytes(Hex::try_from(word).ok()?))
 }
 
 // The outcome that a word writes: a byte string, or `!` and a number.
