@@ -2,7 +2,7 @@
 use collating::Verdict;
 use std::fmt;
 
-#[derive(Clone, Copy)]
+#[derive(Clone, Copy, Default)]
 pub struct Count {
     same: u64,
     differ: u64,
@@ -10,19 +10,10 @@ pub struct Count {
 }
 
 impl Count {
-    pub fn new() -> Count {
-        Count {
-            same: 0,
-            differ: 0,
-            unread: 0,
-        }
-    }
-
     pub fn add(&mut self, verdict: Verdict) {
         match verdict {
             Verdict::Same => self.same = self.same.saturating_add(1),
-            Verdict::Bytes(_) => self.differ = self.differ.saturating_add(1),
-            Verdict::Refused(_) => self.differ = self.differ.saturating_add(1),
+            Verdict::Bytes(_) | Verdict::Refused(_) => self.differ = self.differ.saturating_add(1),
             Verdict::Unread => self.unread = self.unread.saturating_add(1),
         }
     }
