@@ -2,7 +2,7 @@
 use collating::Verdict;
 use std::fmt;
 
-#[derive(Clone, Copy)]
+#[derive(Clone, Copy, Default)]
 pub struct Count {
     same: u64,
     differ: u64,
@@ -10,14 +10,6 @@ pub struct Count {
 }
 
 impl Count {
-    pub fn new() -> Count {
-        Count {
-            same: 0,
-            differ: 0,
-            unread: 0,
-        }
-    }
-
     pub fn add(&mut self, verdict: Verdict<usize>) {
         match verdict {
             Verdict::Same => self.same = self.same.saturating_add(1),

@@ -6,42 +6,28 @@ mod count;
 use anyhow::anyhow;
 use collating::{Areas, LONGEST, judge, passed_over};
 use count::Count;
-use std::alloc::Global;
-use std::io::{BufRead, BufReader, BufWriter, Read, Write};
-
-// Takes the next line, without its newline. At the end of the input there is none.
-fn next_line<R: Read>(input: &mut BufReader<R>, line: &mut Vec<u8>) -> anyhow::Result<bool> {
-    line.clear();
-    if input.read_until(b'\n', line)? == 0 {
-        return Ok(false);
-    }
-    if line.last() == Some(&b'\n') {
-        line.pop();
-    }
-    Ok(true)
-}
+use lines::Lines;
+use std::io::{BufWriter, Read, Write};
 
 // Judges each line, and prints its report before the program waits for the next.
 fn judge_lines<R: Read, W: Write + Drop>(
-    heap: Global,
-    input: &mut BufReader<R>,
+    lines: &mut Lines<R>,
     out: &mut BufWriter<W>,
 ) -> anyhow::Result<Count> {
-    let mut count = Count::new();
-    let mut line = Vec::new(heap);
+    let mut count = Count::default();
     let mut areas = Areas::new();
     let mut answer = [0; LONGEST];
     for number in 1..u64::MAX {
-        if input.buffer().is_empty() {
+        if lines.waits() {
             out.flush()?;
         }
-        if !next_line(input, &mut line)? {
+        let Some(line) = lines.next_line()? else {
             break;
-        }
-        if passed_over(line.as_slice()) {
+        };
+        if passed_over(line) {
             continue;
         }
-        let verdict = judge(line.as_slice(), &mut areas, &mut answer);
+        let verdict = judge(line, &mut areas, &mut answer);
         count.add(verdict);
         writeln!(out, "{}", verdict.report(number, &answer))?;
     }
@@ -49,9 +35,9 @@ fn judge_lines<R: Read, W: Write + Drop>(
 }
 
 fn run(rt: &HostRuntime) -> anyhow::Result<Count> {
-    let mut input = BufReader::new(rt.alloc(), rt.stdin())?;
+    let mut lines = Lines::new(rt.alloc(), rt.stdin(), usize::MAX)?;
     let mut out = BufWriter::new(rt.alloc(), rt.stdout())?;
-    let count = judge_lines(rt.alloc(), &mut input, &mut out)?;
+    let count = judge_lines(&mut lines, &mut out)?;
     writeln!(out, "{count}")?;
     out.flush()?;
     Ok(count)
