@@ -5,6 +5,7 @@ ghost use Rattle.std.specs.Prelude.{◌≡◌};
 use sealing::Opened;
 
 // The number of a refusal, the code of its place and its detail; all 0 where there is none.
+// Kept: numbers and zeros, since C reads them.
 #[repr(C)]
 #[derive(Clone, Copy)]
 pub struct Reason {

@@ -37,7 +37,7 @@ const NONE: Reason = Reason {
     detail: 0,
 };
 
-// The code of a place in the C interface.
+// Kept: a table of its own, since the codes are those of the C interface and not of the library.
 fn place_code(place: Place) -> u32
     ensures { result ≡ place_code place }
 {

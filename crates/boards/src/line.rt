@@ -4,6 +4,7 @@ use hashes::{Cmac, Polyval};
 use sealing::Line;
 
 // A line of either pile.
+// Kept: each call on it is a match of two arms, since there are these two piles and no more.
 #[derive(Drop)]
 pub enum AnyLine {
     A(Line<PileA, Polyval>),

@@ -63,6 +63,7 @@ impl SenderState {
         Ok(Done { number, length: 0 })
     }
 
+    // Kept: beside `draw`, since one function over a closure would need a contract longer than both.
     fn give_up(&mut self, ticket: u64) -> Result<Done, Fault>
         ensures answer { result ≡ gave_up self.old ticket }
         ensures after { self.new ≡ leaves result (after_spent self.old) self.old }

@@ -1,6 +1,7 @@
 // What a board keeps of an end between calls.
 
 // A sending end: the next number, and the number outstanding, or 0.
+// Kept: a number or 0, since C keeps it.
 #[repr(C)]
 #[derive(Clone, Copy)]
 pub struct SenderState {

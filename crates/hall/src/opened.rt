@@ -10,6 +10,7 @@ pub type HallA = Hall<PileA, Polyval>;
 pub type HallB = Hall<PileB, Cmac>;
 
 // Ends of either pile.
+// Kept: a variant for each, since there are these two piles and no more.
 pub enum Opened {
     A(HallA),
     B(HallB),

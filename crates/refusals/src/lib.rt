@@ -34,6 +34,7 @@ impl fmt::Display for Place {
 }
 
 // The number of a refusal, its place and its detail.
+// Kept: a number, since it is what is printed and what C is told; the enums are the faults of the layers.
 #[derive(Clone, Copy, PartialEq, Eq, Debug)]
 pub struct Reason {
     pub number: u8,
