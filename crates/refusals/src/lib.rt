@@ -2,7 +2,7 @@
 #![tactic(auto)]
 
 ghost use Rattle.std.specs.Prelude.{◌≡◌, Some};
-ghost use Rattle.refusals.specs.Table.{alone, key_length};
+ghost use Rattle.refusals.specs.Table.{alone, because, key_length};
 ghost use Rattle.refusals.specs.Spelling.{place_name, told, spelled};
 
 use std::fmt;
@@ -73,6 +73,23 @@ impl fmt::Display for Refusal {
     }
 }
 
+impl Refusal {
+    // A refusal that carries none.
+    pub fn alone(number: u8, place: Place, detail: u64) -> Refusal
+        ensures { result ≡ alone (because number place detail) }
+    {
+        let reason = Reason {
+            number,
+            place,
+            detail,
+        };
+        Refusal {
+            reason,
+            carried: None,
+        }
+    }
+}
+
 // A key of a wrong length, which this is.
 #[derive(Clone, Copy, PartialEq, Eq, Debug)]
 pub struct KeyLength(pub usize);
@@ -81,14 +98,6 @@ impl From<KeyLength> for Refusal {
     ghost from_gives = { λ k r. r ≡ alone (key_length k.0) };
 
     fn from(key: KeyLength) -> Refusal {
-        let reason = Reason {
-            number: 1,
-            place: Place::Part,
-            detail: key.0 as u64,
-        };
-        Refusal {
-            reason,
-            carried: None,
-        }
+        Refusal::alone(1, Place::Part, key.0 as u64)
     }
 }
