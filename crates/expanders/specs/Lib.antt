@@ -1,4 +1,5 @@
 pub mod Asked
+pub mod Domains
 pub mod Refusals
 pub mod Sequences
 pub mod Counters

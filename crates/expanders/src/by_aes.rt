@@ -15,26 +15,22 @@ use from_key::FromKey;
 use octets::{add_at, add_into};
 use refusals::KeyLength;
 
-// What the counter is added to.
+// What is enciphered, block by block: a base with a counter added at its end.
 #[derive(Drop)]
-struct Base([u8; 16]);
+struct Counters<'a> {
+    key: &'a AesKey,
+    base: [u8; 16],
+}
 
-impl Blocks<Base> for AesKey {
-    ghost size = { λ _. 16 };
+impl Blocks<16> for Counters<'_> {
+    ghost block = { λ c j. counter_block (key_of c.key.now) c.base j };
 
-    ghost block = { λ k b j. counter_block (key_of k) b.0 j };
+    ghost long = { λ c j. length-counted _ _ j };
 
-    ghost long = { λ key seed j. length-counted _ _ j };
-
-    fn size(&self) -> usize {
-        16
-    }
-
-    fn add_block(&self, base: &Base, j: u32, skip: usize, stretch: &mut [u8], at: usize) {
-        let mut counter = base.0;
+    fn block(&self, j: u32) -> [u8; 16] {
+        let mut counter = self.base;
         add_at(&mut counter, 12, &j.to_be_bytes());
-        let block = self.encipher(&counter);
-        add_at(stretch, at, &block[skip..]);
+        self.key.encipher(&counter)
     }
 }
 
@@ -64,6 +60,7 @@ impl AesExpander {
     }
 }
 
+// Kept: an impl for each expander: a trait between would say `sequence`, its laws and the parameters of `add` once more.
 impl Expander for AesExpander {
     ghost reach = { λ _. 4096 };
 
@@ -92,13 +89,11 @@ impl Expander for AesExpander {
         admit(domain, from, stretch.len())?;
         let mut base = *input;
         add_into(&mut base, &self.mask(domain, tweak));
-        add_blocks(
-            &self.key,
-            &Base(base),
-            (from >> 4) as u32,
-            from & 15,
-            stretch,
-        );
+        let counters = Counters {
+            key: &self.key,
+            base,
+        };
+        add_blocks(&counters, from, stretch);
         Ok(())
     }
 }

@@ -12,44 +12,33 @@ use crate::fault::ExpanderFault;
 use crate::keys::ChaChaExpander;
 use chacha::{block, subkey};
 use from_key::FromKey;
-use octets::add_at;
 use refusals::KeyLength;
 
-// A key of ChaCha20.
+// A key of ChaCha20 with a nonce.
 #[derive(Drop)]
-struct ChaChaKey([u8; 32]);
+struct Stream {
+    key: [u8; 32],
+    nonce: [u8; 12],
+}
 
-// A nonce of ChaCha20.
-#[derive(Drop)]
-struct Nonce([u8; 12]);
+impl Blocks<64> for Stream {
+    ghost block = { λ s j. block_of s.key j s.nonce };
 
-impl Nonce {
-    // The domain, three zero bytes and the tweak.
-    fn new(domain: u8, tweak: &[u8; 8]) -> Nonce
-        ensures { result.0 ≡ nonce_of domain tweak.now }
-    {
-        let mut nonce = [0; 12];
-        nonce[0] = domain;
-        nonce[4..12].copy_from_slice(tweak);
-        Nonce(nonce)
+    ghost long = { λ s j. length-block s.key j s.nonce };
+
+    fn block(&self, j: u32) -> [u8; 64] {
+        block(&self.key, j, &self.nonce)
     }
 }
 
-impl Blocks<Nonce> for ChaChaKey {
-    ghost size = { λ _. 64 };
-
-    ghost block = { λ k n j. block_of k.0 j n.0 };
-
-    ghost long = { λ key nonce j. length-block key.0 j nonce.0 };
-
-    fn size(&self) -> usize {
-        64
-    }
-
-    fn add_block(&self, nonce: &Nonce, j: u32, skip: usize, stretch: &mut [u8], at: usize) {
-        let block = block(&self.0, j, &nonce.0);
-        add_at(stretch, at, &block[skip..]);
-    }
+// The nonce of a domain and a tweak: the domain, three zero bytes and the tweak.
+fn nonce(domain: u8, tweak: &[u8; 8]) -> [u8; 12]
+    ensures { result ≡ nonce_of domain tweak.now }
+{
+    let mut nonce = [0; 12];
+    nonce[0] = domain;
+    nonce[4..].copy_from_slice(tweak);
+    nonce
 }
 
 // The expander under a key of 32 bytes.
@@ -70,6 +59,7 @@ impl FromKey for ChaChaExpander {
     }
 }
 
+// Kept: an impl for each expander: a trait between would say `sequence`, its laws and the parameters of `add` once more.
 impl Expander for ChaChaExpander {
     ghost reach = { λ _. 4096 };
 
@@ -96,9 +86,11 @@ impl Expander for ChaChaExpander {
         stretch: &mut [u8],
     ) -> Result<(), ExpanderFault> {
         admit(domain, from, stretch.len())?;
-        let key = ChaChaKey(subkey(&self.key, input));
-        let nonce = Nonce::new(domain, tweak);
-        add_blocks(&key, &nonce, (from >> 6) as u32, from & 63, stretch);
+        let stream = Stream {
+            key: subkey(&self.key, input),
+            nonce: nonce(domain, tweak),
+        };
+        add_blocks(&stream, from, stretch);
         Ok(())
     }
 }

@@ -3,7 +3,7 @@ ghost use Rattle.std.specs.Prelude.{◌≡◌};
 ghost use Rattle.expanders.specs.declared.fault.ExpanderFault.TheVariants.{PastReach as Past};
 ghost use Rattle.expanders.specs.Refusals.{told};
 
-use refusals::{Place, Reason, Refusal};
+use refusals::{Place, Refusal};
 
 // The stretch ends past the reach, which this is.
 #[derive(Clone, Copy, PartialEq, Eq, Debug)]
@@ -32,14 +32,6 @@ impl From<ExpanderFault> for Refusal {
             ExpanderFault::Domain(domain) => (3, u64::from(domain)),
             ExpanderFault::PastReach(PastReach(reach)) => (4, u64::from(reach)),
         };
-        let reason = Reason {
-            number,
-            place: Place::Expander,
-            detail,
-        };
-        Refusal {
-            reason,
-            carried: None,
-        }
+        Refusal::alone(number, Place::Expander, detail)
     }
 }

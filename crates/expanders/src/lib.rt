@@ -4,10 +4,12 @@
 mod blocks;
 mod by_aes;
 mod by_chacha;
+mod domain;
 mod expander;
 mod fault;
 mod keys;
 
+pub use domain::Domain;
 pub use expander::Expander;
 pub use fault::{ExpanderFault, PastReach};
 pub use keys::{AesExpander, ChaChaExpander};

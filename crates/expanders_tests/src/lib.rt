@@ -1,6 +1,8 @@
 // Tests of the expanders: values, stretches against the whole sequence, and refusals at the edges; and of ChaCha20 as a stream cipher.
 #![tactic(auto)]
 
+ghost use Rattle.std.specs.Prelude.{◌≤◌};
+
 #[cfg(test)]
 mod tests {
     use chacha::block;
@@ -8,6 +10,7 @@ mod tests {
     use from_key::FromKey;
     use octets::{add_at, equal};
     use refusals::KeyLength;
+    use std::array;
     use std::process::Abort;
     use std::test::Fail;
 
@@ -16,14 +19,10 @@ mod tests {
     const LENGTHS: [usize; 11] = [0, 1, 2, 15, 16, 17, 63, 64, 65, 200, 4096];
 
     // Bytes that count up.
-    fn counted<const N: usize>(first: u8) -> [u8; N] {
-        let mut bytes = [first; N];
-        let mut next = first;
-        for b in bytes.iter_mut() {
-            *b = next;
-            next = next.wrapping_add(1);
-        }
-        bytes
+    fn counted<const N: usize>(first: u8) -> [u8; N]
+        requires { N ≤ 32 }
+    {
+        array::from_fn(|i| first.wrapping_add(i as u8))
     }
 
     fn aes128() -> Result<AesExpander, KeyLength> {
@@ -247,10 +246,7 @@ mod tests {
     // What a stretch of two bytes meets, and whether it is left as it was.
     fn meets<E: Expander>(e: &E, domain: u8, from: usize, fault: ExpanderFault) -> bool {
         let mut stretch = [7, 9];
-        match add(e, domain, from, &mut stretch) {
-            Ok(_) => false,
-            Err(f) => f == fault && equal(&stretch, &[7, 9]),
-        }
+        add(e, domain, from, &mut stretch) == Err(fault) && equal(&stretch, &[7, 9])
     }
 
     fn refuses<E: Expander>(rt: &impl Abort, e: &E) {
@@ -277,17 +273,8 @@ mod tests {
     }
 
     #[test]
-    fn keys_of_other_lengths_are_refused(rt: HostRuntime) -> Result<(), Fail> {
-        match AesExpander::new(&[0; 24]) {
-            Ok(_) => return Err(Fail::new("24 bytes were taken")),
-            Err(fault) => assert_eq!(rt; fault, KeyLength(24)),
-        }
-        match ChaChaExpander::new(&[0; 16]) {
-            Ok(_) => Err(Fail::new("16 bytes were taken")),
-            Err(fault) => {
-                assert_eq!(rt; fault, KeyLength(16));
-                Ok(())
-            },
-        }
+    fn keys_of_other_lengths_are_refused(rt: HostRuntime) {
+        assert_eq!(rt; AesExpander::new(&[0; 24]).err(), Some(KeyLength(24)));
+        assert_eq!(rt; ChaChaExpander::new(&[0; 16]).err(), Some(KeyLength(16)));
     }
 }

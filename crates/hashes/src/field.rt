@@ -26,7 +26,7 @@ pub(crate) fn dot(a: u128, b: u128) -> u128
 {
     let mut rest = a;
     let mut sum = 0;
-    for turn in 0..128u32 {
+    for _ in 0..u128::BITS {
         sum = halved(sum ^ masked(rest, b));
         rest >>= 1;
     }

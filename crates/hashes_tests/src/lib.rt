@@ -8,6 +8,7 @@ mod tests {
     use from_key::FromKey;
     use hashes::{Cmac, KeyedHash, Polyval};
     use refusals::KeyLength;
+    use std::array;
     use std::test::Fail;
 
     // The message of RFC 4493's examples.
@@ -19,20 +20,12 @@ mod tests {
     ];
 
     fn message() -> [u8; 64] {
-        let mut m = [0; 64];
-        for i in 0..64 {
-            m[i] = MESSAGE[i / 16].to_be_bytes()[i % 16];
-        }
-        m
+        array::from_fn(|i| MESSAGE[i / 16].to_be_bytes()[i % 16])
     }
 
     // The bytes 0 to 31.
     fn ascending() -> [u8; 32] {
-        let mut s = [0; 32];
-        for i in 0..32usize {
-            s[i] = i as u8;
-        }
-        s
+        array::from_fn(|i| i as u8)
     }
 
     // The value at s, cut in two at `cut`, as a number with the first byte the highest.
@@ -63,18 +56,9 @@ mod tests {
     }
 
     #[test]
-    fn a_key_has_16_bytes(rt: HostRuntime) -> Result<(), Fail> {
-        match Polyval::new(&[0; 15]) {
-            Ok(_) => return Err(Fail::new("15 bytes were taken")),
-            Err(refused) => assert_eq!(rt; refused, KeyLength(15)),
-        }
-        match Cmac::new(&[0; 32]) {
-            Ok(_) => Err(Fail::new("32 bytes were taken")),
-            Err(refused) => {
-                assert_eq!(rt; refused, KeyLength(32));
-                Ok(())
-            },
-        }
+    fn a_key_has_16_bytes(rt: HostRuntime) {
+        assert_eq!(rt; Polyval::new(&[0; 15]).err(), Some(KeyLength(15)));
+        assert_eq!(rt; Cmac::new(&[0; 32]).err(), Some(KeyLength(32)));
     }
 }
 

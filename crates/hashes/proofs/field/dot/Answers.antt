@@ -4,14 +4,14 @@ use Rattle.hashes.specs.Halves.{half, turns}
 use Rattle.hashes.proofs.Products.{turns_more, turns-none, dot_is}
 use Rattle.hashes.proofs.field.dot.Goals as goal
 
-pub loop-turn-preserved : goal.loop-turn-preserved
-loop-turn-preserved c =
-    ap (turns (128 - (c.loop-turn.turn + 1)) (c.loop-turn.rest / 2) c.args.b)
-    (c.halved-sum.ensures ∙ ap (λ (x : ℕ). half (bit_xor c.loop-turn.sum x)) c.masked.ensures)
-    ∙ sym (turns_more 128 c.loop-turn.turn c.loop-turn.rest c.args.b c.loop-turn.sum c.loop-turn-test.true)
-    ∙ c.loop-turn.invariant
+pub loop-preserved : goal.loop-preserved
+loop-preserved c =
+    ap (turns (128 - (c.loop.counter + 1)) (c.loop.rest / 2) c.args.b)
+    (c.halved-sum.ensures ∙ ap (λ (x : ℕ). half (bit_xor c.loop.sum x)) c.masked.ensures)
+    ∙ sym (turns_more 128 c.loop.counter c.loop.rest c.args.b c.loop.sum c.loop-test.true)
+    ∙ c.loop.invariant
 
 pub returns : goal.returns
 returns c =
-    sym (turns-none 128 c.loop-turn.turn c.loop-turn.rest c.args.b c.loop-turn.sum c.loop-turn-test.false)
-    ∙ c.loop-turn.invariant ∙ dot_is c.args.a c.args.b (omega arith)
+    sym (turns-none 128 c.loop.counter c.loop.rest c.args.b c.loop.sum c.loop-test.false)
+    ∙ c.loop.invariant ∙ dot_is c.args.a c.args.b (omega arith)

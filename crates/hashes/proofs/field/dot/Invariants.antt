@@ -2,5 +2,5 @@ use Rattle.std.proofs.Common.{◌≡◌, ◌-◌}
 use Rattle.hashes.specs.Halves.{turns}
 use Rattle.hashes.proofs.field.dot.Given as goal
 
-abbrev pub invariant-loop-turn : goal.invariant-loop-turn
-invariant-loop-turn l = turns (128 - l.turn) l.rest l.b l.sum ≡ turns 128 l.a l.b 0
+abbrev pub invariant-loop : goal.invariant-loop
+invariant-loop l = turns (128 - l.counter) l.rest l.b l.sum ≡ turns 128 l.a l.b 0
