@@ -76,7 +76,7 @@ impl Window {
                 marks: shifted | 1,
             };
         } else {
-            self.accepted.marks = marks | 1 << (highest - number);
+            self.accepted.marks |= 1 << (highest - number);
         }
     }
 
