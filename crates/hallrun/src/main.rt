@@ -21,7 +21,7 @@ fn answer_lines<C: WideCipher, J: KeyedHash, R: Read, W: Write + Drop>(
     let mut body = [0; 8192];
     let mut work = [0; 8192];
     let mut area = [0; 8192];
-    writeln!(out, "{}", Answer::Ready)?;
+    writeln!(out, "{}", Answer::<&[u8]>::Ready)?;
     for _ in 0..u64::MAX {
         if lines.waits() {
             out.flush()?;
