@@ -91,13 +91,6 @@ length-unhexed [] = refl
 length-unhexed (c ∷ []) = refl
 length-unhexed (h ∷ l ∷ ds) = let e = length-unhexed ds in omega arith
 
-pub worth-small : (c : ℕ) → worth c < 16
-worth-small c = at (nibbled c) refl
-  where
-    at : (o : Option ℕ) → nibbled c ≡ o → unwrap_or o 0 < 16
-    at None e = omega arith
-    at (Some d) e = (nibbled-some c d e).0
-
 -- the byte at i is that of the pair at i
 pub unhexed-at : (ds : List ℕ) (i n : ℕ) → i < n → n ≤ length ds / 2 → let pair = get_or (first_chunks 2 n ds) i [] in worth (get_or pair 0 0) * 16 + worth (get_or pair 1 0) ≡ get_or (unhexed ds) i 0
 unfolding unhexed

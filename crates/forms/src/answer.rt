@@ -1,24 +1,43 @@
 // What is answered to a line, and how it is written.
 ghost use Rattle.std.specs.Prelude.{Some};
-ghost use Rattle.forms.specs.Answers.{spelled};
+ghost use Rattle.forms.specs.Answers.{spelled, Tells};
 
 use crate::hex::Hexadecimal;
 use refusals::Refusal;
 use std::fmt;
 
+// A record and a text are bytes, or a length where the bytes are in an area of their own.
 #[derive(Clone, Copy)]
-pub enum Answer<'a> {
+pub enum Answer<S> {
     Ready,
     Ticket(u64),
     GivenUp(u64),
     NoTicket,
-    Record(&'a [u8]),
-    Text(&'a [u8]),
+    Record(S),
+    Text(S),
     Refused(Refusal),
     Unread(usize),
 }
 
-impl fmt::Display for Answer<'_> {
+impl Answer<usize> {
+    // The answer, where a record or a text of its length stands at the front of `out`.
+    pub fn within<'a>(&self, out: &'a [u8]) -> Answer<&'a [u8]>
+        ensures { Tells self.now out.now result }
+    {
+        match *self {
+            Answer::Ready => Answer::Ready,
+            Answer::Ticket(number) => Answer::Ticket(number),
+            Answer::GivenUp(number) => Answer::GivenUp(number),
+            Answer::NoTicket => Answer::NoTicket,
+            Answer::Record(length) => Answer::Record(&out[..length.min(out.len())]),
+            Answer::Text(length) => Answer::Text(&out[..length.min(out.len())]),
+            Answer::Refused(refusal) => Answer::Refused(refusal),
+            Answer::Unread(column) => Answer::Unread(column),
+        }
+    }
+}
+
+impl fmt::Display for Answer<&[u8]> {
     ghost output = { λ a. Some (spelled a) };
 
     fn fmt<W: fmt::Write>(&self, f: &mut fmt::Formatter<W>) -> fmt::Result {

@@ -28,6 +28,7 @@ pub struct TooShort {
 }
 
 // The number that a hexadecimal digit stands for.
+// Kept: char::to_digit takes upper case too, which no line may have, so a test beside it is no plainer.
 pub(crate) fn nibble(c: u8) -> Option<u8>
     ensures { result ≡ nibbled c }
 {

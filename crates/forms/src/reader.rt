@@ -113,6 +113,7 @@ impl<'a> Reader<'a> {
     }
 
     // The form if the line ends with it, or else the column of the first byte that is left.
+    // Kept: the line stands beside its reader, since as a field each method would have to promise that it stays.
     pub(crate) fn finish<F: Drop>(&self, line: &[u8], form: Result<F, Stuck>) -> Result<F, Unread>
         requires { length self.now.rest.now ≤ length line.now }
         ensures { said (λ x. x) result ≡ whole (length line.now) (taken (λ x. x) form self.now.rest.now) }

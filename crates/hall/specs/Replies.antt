@@ -7,7 +7,7 @@ use Rattle.hall.specs.declared.reply.Reply.{Reply}
 use Rattle.hall.specs.declared.reply.Reply.TheVariants.{Ticket, GivenUp, NoTicket, Record, Text, Refused, Unread}
 
 -- a record or a text is the front of the area
-abbrev pub Tells : Reply → List ℕ → Answer → Type 0
+abbrev pub Tells : Reply → List ℕ → Answer (Bor (List ℕ)) → Type 0
 Tells (Ticket n) out a = a ≡ answer.Ticket n
 Tells (GivenUp n) out a = a ≡ answer.GivenUp n
 Tells NoTicket out a = a ≡ answer.NoTicket

@@ -37,7 +37,7 @@ impl From<Refusal> for Reply {
 
 impl Reply {
     // The answer, where a record or a text stands at the front of `out`.
-    pub fn answer<'a>(&self, out: &'a [u8]) -> Answer<'a>
+    pub fn answer<'a>(&self, out: &'a [u8]) -> Answer<&'a [u8]>
         ensures { Tells self.now out.now result }
     {
         match *self {

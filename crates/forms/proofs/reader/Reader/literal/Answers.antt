@@ -1,12 +1,9 @@
-use Rattle.std.proofs.Common.{List, ℕ, sym, refl, ap, ◌∙◌}
+use Rattle.std.proofs.Common.{List, ℕ, sym, ap, ◌∙◌}
 use Rattle.std.proofs.lemmas.List.{drop_all}
 use Rattle.forms.specs.Scans.{literal}
 use Rattle.forms.proofs.Rests.{handed}
 use Rattle.forms.proofs.Turns.{literal-more, literal-stuck}
 use Rattle.forms.proofs.reader.Reader.literal.Goals as goal
-
-pub loop-b-init : goal.loop-b-init
-loop-b-init c = refl
 
 pub loop-b-preserved : goal.loop-b-preserved
 loop-b-preserved c = c.loop-b.invariant ∙ literal-more _ _ _ _ c.loop-b-test.true c.in_ok-eat.ensures

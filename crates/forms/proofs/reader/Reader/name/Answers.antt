@@ -1,10 +1,7 @@
-use Rattle.std.proofs.Common.{sym, refl, ◌∙◌, length-set}
+use Rattle.std.proofs.Common.{sym, ◌∙◌, length-set}
 use Rattle.forms.proofs.Rests.{handed}
 use Rattle.forms.proofs.Turns.{name-more, name-stuck, name-all}
 use Rattle.forms.proofs.reader.Reader.name.Goals as goal
-
-pub loop-b-init : goal.loop-b-init
-loop-b-init c = (refl, refl)
 
 pub loop-b-preserved : goal.loop-b-preserved
 loop-b-preserved c = (length-set _ _ _ ∙ c.loop-b.invariant.0, c.loop-b.invariant.1 ∙ name-more _ _ _ _ _ c.loop-b-test.true c.loop-b.invariant.0 c.in_ok-b.ensures)
