@@ -9,5 +9,6 @@ returns g c =
     let i = c.args.input.now in
     let v = c.in_ok-add.ensures.answer in
     let size = g.met.E.Expander.size e d w i (record { known = known-domain (g.E.Expander.reach e) d _ _ v; tweak_long = c.told-tweak; tweak_bytes = c.fits-tweak; input_long = c.told-input; input_bytes = c.fits-input }) in
-    let done = stretched (g.E.Expander.reach e) d c.args.from _ (g.E.Expander.sequence e d w i) c.args.bytes.now c.add.new.stretch c.args.area.now c.put.new.area c.put.result v size c.requires.zero c.in_ok-add.ensures.after c.put.ensures.answer c.put.ensures.after in
-    record { answer = done.0; after = done.1 }
+    let is = c.in_ok-add.ensures.after in
+    let same = stretched (g.E.Expander.reach e) d c.args.from _ (g.E.Expander.sequence e d w i) c.args.bytes.now v size c.requires.zero in
+    record { answer = rw (← v) (cc); after = rw (← v) (cc) }
