@@ -1,8 +1,10 @@
 // What is answered to a line, and how it is written.
-ghost use Rattle.std.specs.Prelude.{Some};
+ghost use Rattle.std.specs.Prelude.{◌≡◌, Some};
 ghost use Rattle.forms.specs.Answers.{spelled, Tells};
+ghost use Rattle.forms.specs.declared.answer.Answer.TheVariants.{Unread as Unreadable, Refused as Refuses};
 
 use crate::hex::Hexadecimal;
+use crate::unread::Unread;
 use refusals::Refusal;
 use std::fmt;
 
@@ -17,6 +19,22 @@ pub enum Answer<S> {
     Text(S),
     Refused(Refusal),
     Unread(usize),
+}
+
+impl<S> From<Unread> for Answer<S> {
+    ghost from_gives = { λ u a. a ≡ Unreadable u.0 };
+
+    fn from(unread: Unread) -> Answer<S> {
+        Answer::Unread(unread.0)
+    }
+}
+
+impl<S> From<Refusal> for Answer<S> {
+    ghost from_gives = { λ r a. a ≡ Refuses r };
+
+    fn from(refusal: Refusal) -> Answer<S> {
+        Answer::Refused(refusal)
+    }
 }
 
 impl Answer<usize> {

@@ -1,29 +1,12 @@
--- A reply with its record or its text, and a reply to byte strings that were written out.
+-- A reply to byte strings that were written out.
 use Rattle.std.proofs.Common.{◌≡◌, ℕ, ◌-◌, min, List, length, take, sym, refl, ap, ◌∙◌, subst, inl, inr, arith, Bor}
 use Rattle.std.proofs.lemmas.List.{take_all}
 use Rattle.std.proofs.lemmas.Bool.{cases_lt}
 use Rattle.ciphers.specs.declared.wide.WideCipher.{Ghosts as Cipher}
 use Rattle.hashes.specs.declared.keyed.KeyedHash.{Ghosts as Hash}
 use Rattle.forms.specs.Spelling.{Asked, seal, receive}
-use Rattle.forms.specs.declared.answer.Answer.TheVariants as answer
-use Rattle.hall.specs.Replies.{Tells}
 use Rattle.hall.specs.Steps.{State, Obeys, Steps}
-use Rattle.hall.specs.declared.reply.Reply.{Reply}
-use Rattle.hall.specs.declared.reply.Reply.TheVariants.{Record, Text}
-
--- the first m elements, where m is n or all there are
-pub front-min : (n m : ℕ) (xs : List ℕ) → m ≡ min n (length xs) → take (m - 0) xs ≡ take n xs
-front-min n m xs e =
-    elim (cases_lt n (length xs)) [
-      | inl h ↦ let f : m - 0 ≡ n = omega arith in ap (λ k. take k xs) f
-      | inr h ↦ take_all (m - 0) xs (omega arith) ∙ sym (take_all n xs h)
-    ]
-
-pub told-record : (r : Reply) (n : ℕ) (out : List ℕ) (b : Bor (List ℕ)) → r ≡ Record n → b.now ≡ take n out → Tells r out (answer.Record b)
-told-record r n out b e f = subst (λ x. Tells x out (answer.Record b)) (sym e) (b, refl, f)
-
-pub told_text : (r : Reply) (n : ℕ) (out : List ℕ) (b : Bor (List ℕ)) → r ≡ Text n → b.now ≡ take n out → Tells r out (answer.Text b)
-told_text r n out b e f = subst (λ x. Tells x out (answer.Text b)) (sym e) (b, refl, f)
+use Rattle.hall.specs.Replies.{Reply}
 
 -- what was asked with the strings that stand at the front of two areas
 module _ {C J : Type 0} (c : Cipher C) (j : Hash J) (h : State C J) (work room : ℕ) (out : List ℕ) (r : Reply) (h' : State C J) (out' : List ℕ) where

@@ -12,7 +12,7 @@ use Rattle.forms.specs.Columns.{Reads}
 use Rattle.forms.specs.Spelling.{Asked, Asks, draw, give_up, seal, receive}
 use Rattle.hall.specs.Sessions.{with_held, sealed_by, received_by, calls, calls_read, world, Led, Leads, Continues}
 use Rattle.hall.specs.Steps.{State, meaning_of, sending, counting_held, Obeys, ObeysRead, Steps}
-use Rattle.hall.specs.declared.reply.Reply.{Reply}
+use Rattle.hall.specs.Replies.{Reply}
 
 module _ {C J : Type 0} (c : Cipher C) (j : Hash J) (h h' : State C J) (sender : h'.sender ≡ h.sender) (receiver : h'.receiver ≡ h.receiver) where
   -- a run that ends at h' does so for the parts that it began with

@@ -21,8 +21,8 @@ use Rattle.hall.specs.Steps.{State, state_of}
 use Rattle.hall.specs.declared.hall.Hall.{Hall}
 use Rattle.hall.specs.declared.opened.Opened.{Opened}
 use Rattle.hall.specs.declared.opened.Opened.TheVariants.{A, B}
-use Rattle.hall.specs.declared.reply.Reply.{Reply}
-use Rattle.hall.specs.declared.reply.Reply.TheVariants.{Refused, Unread}
+use Rattle.hall.specs.Replies.{Reply}
+use Rattle.forms.specs.declared.answer.Answer.TheVariants.{Refused, Unread}
 
 -- an end: the keys of its parts and the name of its line
 pub record End : Type 0 where

@@ -19,8 +19,8 @@ use Rattle.ends.specs.declared.ticket.Ticket.{Ticket}
 use Rattle.forms.specs.Columns.{Reads}
 use Rattle.forms.specs.Spelling.{Asked, Asks, draw, give_up, seal, receive}
 use Rattle.hall.specs.declared.hall.Hall.{Hall}
-use Rattle.hall.specs.declared.reply.Reply.{Reply}
-use Rattle.hall.specs.declared.reply.Reply.TheVariants.{Ticket as Drew, GivenUp, NoTicket, Record, Text, Refused, Unread}
+use Rattle.hall.specs.Replies.{Reply}
+use Rattle.forms.specs.declared.answer.Answer.TheVariants.{Ticket as Drew, GivenUp, NoTicket, Record, Text, Refused, Unread}
 
 -- the parts and the line of each end, where the ends stand, and the ticket held, if any
 pub record State (C J : Type 0) : Type 0 where

@@ -28,7 +28,7 @@ fn answer_lines<C: WideCipher, J: KeyedHash, R: Read, W: Write + Drop>(
             break;
         };
         let reply = hall.step(line, &mut areas);
-        writeln!(out, "{}", reply.answer(&areas.out))?;
+        writeln!(out, "{}", reply.within(&areas.out))?;
     }
     Ok(())
 }
@@ -43,7 +43,7 @@ fn session<C: WideCipher + Drop, J: KeyedHash + Drop, R: Read, W: Write + Drop>(
     let last = hall.close();
     done?;
     if let Some(reply) = last {
-        writeln!(out, "{}", reply.answer(&[]))?;
+        writeln!(out, "{}", reply.within(&[]))?;
     }
     Ok(())
 }
@@ -68,7 +68,7 @@ fn run(rt: &HostRuntime) -> anyhow::Result<()> {
     };
     match open(first) {
         Ok(opened) => serve(opened, &mut lines, &mut out)?,
-        Err(reply) => writeln!(out, "{}", reply.answer(&[]))?,
+        Err(reply) => writeln!(out, "{}", reply.within(&[]))?,
     }
     out.flush()?;
     Ok(())

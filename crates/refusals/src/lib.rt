@@ -91,23 +91,6 @@ impl fmt::Display for Refusal {
     }
 }
 
-impl Refusal {
-    // A refusal that carries none.
-    pub fn alone(number: u8, place: Place, detail: u64) -> Refusal
-        ensures { result ≡ alone (because number place detail) }
-    {
-        let reason = Reason {
-            number,
-            place,
-            detail,
-        };
-        Refusal {
-            reason,
-            carried: None,
-        }
-    }
-}
-
 // A key of a wrong length, which this is.
 #[derive(Clone, Copy, PartialEq, Eq, Debug)]
 pub struct KeyLength(pub usize);
