@@ -1,6 +1,7 @@
 // Docked-double-decker: a wide cipher from a keyed hash and an expander.
-ghost use Rattle.std.specs.Prelude.{◌≡◌, ℕ, ◌+◌, ◌≤◌, ◌⊎◌, List, length, Some};
+ghost use Rattle.std.specs.Prelude.{◌≡◌, ℕ, ◌+◌, ◌≤◌, List, length, Some};
 ghost use Rattle.octets.specs.Strings.{xor};
+ghost use Rattle.expanders.specs.Domains.{number_of};
 ghost use Rattle.ciphers.specs.Ddd.{enc as forwards, dec as backwards};
 ghost use Rattle.ciphers.specs.Refusals.{past_reach};
 ghost use Rattle.ciphers.specs.Construction.{length-enc, length-dec, bytes-enc, bytes-dec, dec-enc, enc-dec};
@@ -8,7 +9,7 @@ ghost use Rattle.std.proofs.Common.{rules};
 
 use crate::fault::CipherFault;
 use crate::wide::WideCipher;
-use expanders::Expander;
+use expanders::{Domain, Expander};
 use hashes::KeyedHash;
 use octets::{add_at, add_into, block};
 
@@ -20,12 +21,11 @@ pub struct Ddd<H, E> {
 
 impl<H: KeyedHash, E: Expander> Ddd<H, E> {
     // Adds the sequence of a domain to a stretch that ends within the reach.
-    fn mask(&self, domain: u8, tweak: &[u8; 8], input: &[u8; 16], stretch: &mut [u8])
-        requires known { (domain ≡ 1) ⊎ (domain ≡ 2) }
-        requires within { length stretch.old ≤ E.Expander.reach self.now.expander }
-        ensures { stretch.new ≡ xor stretch.old (E.Expander.sequence self.now.expander domain tweak.now input.now) }
+    fn mask(&self, domain: Domain, tweak: &[u8; 8], input: &[u8; 16], stretch: &mut [u8])
+        requires { length stretch.old ≤ E.Expander.reach self.now.expander }
+        ensures { stretch.new ≡ xor stretch.old (E.Expander.sequence self.now.expander (number_of domain) tweak.now input.now) }
     {
-        if let Err(_) = self.expander.add(domain, tweak, input, 0, stretch) {
+        if let Err(_) = self.expander.add(domain.into(), tweak, input, 0, stretch) {
             unreachable()
         }
     }
@@ -79,8 +79,8 @@ impl<H: KeyedHash, E: Expander> WideCipher for Ddd<H, E> {
         let end = s.len() - 16;
         let h = self.hash.hash(&s[16..], &[]);
         add_into(s, &h);
-        self.mask(1, tweak, &block(s), &mut s[end..]);
-        self.mask(2, tweak, &block(&s[end..]), &mut s[0..end]);
+        self.mask(Domain::Right, tweak, &block(s), &mut s[end..]);
+        self.mask(Domain::Left, tweak, &block(&s[end..]), &mut s[0..end]);
         let k = self.hash.hash(&s[0..end], &[]);
         add_at(s, end, &k);
         Ok(())
@@ -91,8 +91,8 @@ impl<H: KeyedHash, E: Expander> WideCipher for Ddd<H, E> {
         let end = s.len() - 16;
         let hashed = self.hash.hash(&s[0..end], &[]);
         add_at(s, end, &hashed);
-        self.mask(2, tweak, &block(&s[end..]), &mut s[0..end]);
-        self.mask(1, tweak, &block(s), &mut s[end..]);
+        self.mask(Domain::Left, tweak, &block(&s[end..]), &mut s[0..end]);
+        self.mask(Domain::Right, tweak, &block(s), &mut s[end..]);
         let h = self.hash.hash(&s[16..], &[]);
         add_into(s, &h);
         Ok(())

@@ -50,11 +50,7 @@ impl FromKey for ChaChaExpander {
     ghost most = { Prim.search rules };
 
     fn new(key: &[u8]) -> Result<ChaChaExpander, KeyLength> {
-        if key.len() != 32 {
-            return Err(KeyLength(key.len()));
-        }
-        let mut bytes = [0; 32];
-        bytes.copy_from_slice(key);
+        let bytes = <[u8; 32]>::try_from(key).map_err(|_| KeyLength(key.len()))?;
         Ok(ChaChaExpander { key: bytes })
     }
 }
