@@ -59,11 +59,11 @@ impl Chain {
     {
         let mut chain = self;
         let mut rest = bytes;
-        while rest.len() > 0 {
+        while !rest.is_empty() {
             let ready = chain.opened(f);
-            let n = rest.len().min(16 - ready.fill);
-            chain = ready.add(&rest[0..n]);
-            rest = &rest[n..];
+            let (piece, after) = rest.split_at(rest.len().min(16 - ready.fill));
+            chain = ready.add(piece);
+            rest = after;
         }
         chain
     }
