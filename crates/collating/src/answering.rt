@@ -1,7 +1,6 @@
 // A question, answered by the library.
-ghost use Rattle.std.specs.Prelude.{◌≡◌, ◌==◌, ℕ, ◌+◌, ◌≤◌, true, List, ◌++◌, length, take, drop};
+ghost use Rattle.std.specs.Prelude.{◌≡◌, ◌==◌, ◌≤◌, ◌++◌, length, drop};
 ghost use Rattle.octets.specs.Strings.{zeros};
-ghost use Rattle.expanders.specs.Refusals.{adding};
 ghost use Rattle.ciphers.specs.Refusals.{verdict, kept};
 ghost use Rattle.sealing.specs.Meaning.{meaning_of};
 ghost use Rattle.collating.specs.Answers.{answering, counted, placed, stretching, stretch_of, directed, through, recording};

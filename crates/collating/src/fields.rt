@@ -50,10 +50,7 @@ pub(crate) fn look_up<T: Copy>(word: &[u8], table: &[(&[u8], T)]) -> Option<T>
 fn decimal(word: &[u8]) -> Option<u64>
     ensures { result ≡ number_of word.now }
 {
-    if word.is_empty() {
-        return None;
-    }
-    if word.len() > MOST_DIGITS {
+    if word.is_empty() || word.len() > MOST_DIGITS {
         return None;
     }
     let mut value = 0;

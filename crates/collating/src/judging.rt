@@ -4,7 +4,7 @@ ghost use Rattle.octets.specs.Strings.{same, zeros};
 ghost use Rattle.forms.specs.Said.{bytes_of};
 ghost use Rattle.collating.specs.Filling.{Filled};
 ghost use Rattle.collating.specs.Judging.{fitting, comparing, standing, judging, left, passed_over};
-ghost use Rattle.collating.specs.Questions.{asked, keys_with, wanted, told};
+ghost use Rattle.collating.specs.Questions.{asked, wanted, told};
 ghost use Rattle.collating.specs.Reading.{reading};
 
 use crate::answering::{LONGEST, answer};
@@ -51,10 +51,8 @@ impl Areas {
 fn fill<'a>(hex: &Hex<'_>, area: &'a mut Area) -> Option<&'a [u8]>
     ensures { Filled (bytes_of hex.now) result }
 {
-    match hex.decode(area) {
-        Ok(length) => Some(&area[..length]),
-        Err(_) => None,
-    }
+    let length = hex.decode(area).ok()?;
+    Some(&area[..length])
 }
 
 // The question with its byte strings written out, if each fits.
