@@ -12,8 +12,8 @@ mod key;
 mod schedule;
 mod state;
 
-pub use key::AesKey;
 use from_key::FromKey;
+pub use key::AesKey;
 use refusals::KeyLength;
 use schedule::key_expansion;
 use state::{last_round, load, round, store};
