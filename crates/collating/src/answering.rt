@@ -91,6 +91,7 @@ fn blank() -> [u8; PAST_REACH]
 }
 
 // The sequence from `from` on, as it comes of zero bytes.
+// Kept: domain, tweak and input one by one: of arrays in a struct behind a reference the proof does not get that they hold bytes.
 fn added<E: Expander>(
     expander: &E,
     domain: u8,
