@@ -55,6 +55,7 @@ impl AesKey {
 }
 
 // The ciphertext of the example with a key of 16 bytes.
+// Kept: a function for each example, since each is a theorem about another key.
 pub fn example_128() -> [u8; 16]
     ensures { result ≡ aes_of key128 plaintext }
 {

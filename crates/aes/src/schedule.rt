@@ -58,6 +58,7 @@ fn key_words(key: &[u8]) -> Schedule
 {
     let (words, _) = key.as_chunks::<4>();
     let mut w = [0; 60];
+    // Kept: w[i], for of words written through a zip of iter_mut a proof knows only how many there are.
     for (i, word) in words.iter().enumerate() {
         w[i] = u32::from_be_bytes(*word);
     }

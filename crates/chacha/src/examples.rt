@@ -15,6 +15,8 @@ const SUBKEY: [u8; 32] = [
     0xa0, 0xf9, 0xe4, 0xd5, 0x8a, 0x74, 0xa8, 0x53, 0xc1, 0x2e, 0xc4, 0x13, 0x26, 0xd3, 0xec, 0xdc,
 ];
 
+// Kept: a function for each value, since each is a theorem about another definition.
+
 // RFC 8439, section 2.1.1.
 pub fn example_quarter_round() -> (u32, u32, u32, u32)
     ensures { result ≡ quarter_round example_words }

@@ -46,6 +46,7 @@ fn column_round(s: &mut State)
     quarter_round_at(s, 3, 7, 11, 15);
 }
 
+// Kept: beside the column round, line by line as the standard has them; a table of places needs a proof that each is below 16.
 fn diagonal_round(s: &mut State)
     ensures { s.new ≡ diagonal_round s.old }
 {

@@ -13,6 +13,7 @@ mod tests {
     const TWEAK: [u8; 8] = [0x01, 0x23, 0x45, 0x67, 0x89, 0xab, 0xcd, 0xef];
 
     // Bytes that count up.
+    // Kept: here and in the tests of the expanders, since test crates share no code.
     fn counted<const N: usize>(first: u8) -> [u8; N] {
         array::from_fn(|i| first.wrapping_add((i % 256) as u8))
     }

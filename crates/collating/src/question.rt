@@ -36,6 +36,7 @@ pub struct CipherKeys<S> {
 pub struct Stretch<S> {
     pub kind: ExpanderKind,
     pub key: S,
+    // Kept: any byte, since the library is to be asked with a wrong one too.
     pub domain: u8,
     pub tweak: [u8; 8],
     pub input: [u8; 16],

@@ -92,6 +92,7 @@ impl Hex<'_> {
             return Err(TooShort { needed });
         }
         let (pairs, _) = self.digits.as_chunks::<2>();
+        // Kept: area[i], for of bytes written through a zip of iter_mut a proof knows only how many there are.
         for (i, [high, low]) in pairs.iter().enumerate() {
             area[i] = pair(*high, *low);
         }

@@ -1,6 +1,4 @@
-mod Filling
 mod Fitting
-mod Keys
 mod Making
 mod Replying
 mod Sessions

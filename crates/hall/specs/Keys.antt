@@ -36,9 +36,9 @@ keys_a c j = keys_in (λ h. polyval_key h) (λ e. key_of e.key) c j
 abbrev pub keys_b : CipherB → Cmac → Keys
 keys_b c j = keys_in (λ h. cmac_key h) (λ e. e.key) c j
 
--- the length of a key of at most n bytes
-abbrev pub up_to : ℕ → List ℕ → Result ℕ KeyLength
-up_to n key = cond (nat_le (length key) n) (Ok (length key)) (Err (wrong key))
+-- a key of at most n bytes
+abbrev pub up_to : ℕ → List ℕ → Result (List ℕ) KeyLength
+up_to n key = sized (nat_le (length key) n) key
 
 abbrev pub hash_key_taken : List ℕ → Result (List ℕ) KeyLength
 hash_key_taken key = sized (length key == 16) key

@@ -1,5 +1,5 @@
 // The parts of the ends, from the keys of the first line.
-ghost use Rattle.std.specs.Prelude.{◌≡◌, ℕ, take, Ok};
+ghost use Rattle.std.specs.Prelude.{◌≡◌};
 ghost use Rattle.forms.specs.Said.{bytes_of, ends_of};
 ghost use Rattle.from_key.specs.Taken.{held, taken};
 ghost use Rattle.hall.specs.Keys.{up_to, keys_by, held_by};
@@ -9,13 +9,12 @@ use forms::{Hex, Opening, TooShort};
 use from_key::FromKey;
 use refusals::KeyLength;
 
-// Writes a key at the front of an area, and answers its length. No part takes a longer key.
-fn read_key(hex: &Hex<'_>, area: &mut [u8; 32]) -> Result<usize, KeyLength>
-    ensures answer { result ≡ up_to 32 (bytes_of hex.now) }
-    ensures front { (n : ℕ) → result ≡ Ok n → take n area.new ≡ bytes_of hex.now }
+// Writes a key into an area. No part takes a longer key.
+fn read_key<'a>(hex: &Hex<'_>, area: &'a mut [u8; 32]) -> Result<&'a [u8], KeyLength>
+    ensures { held (λ key. key.now) result ≡ up_to 32 (bytes_of hex.now) }
 {
     match hex.decode(area) {
-        Ok(length) => Ok(length),
+        Ok(length) => Ok(&area[..length]),
         Err(TooShort { needed }) => Err(KeyLength(needed)),
     }
 }
@@ -24,8 +23,7 @@ fn part<P: FromKey>(hex: &Hex<'_>) -> Result<P, KeyLength>
     ensures { held P.FromKey.key result ≡ taken P.FromKey.takes (bytes_of hex.now) }
 {
     let mut area = [0; 32];
-    let length = read_key(hex, &mut area)?;
-    P::new(&area[0..length])
+    P::new(read_key(hex, &mut area)?)
 }
 
 // The parts of an end: the keys are judged in the order hash, expander, header hash.

@@ -16,14 +16,13 @@ use forms::{Command, Hex, read_command};
 use hashes::KeyedHash;
 use sealing::Work;
 
-// Writes a byte string of a line, which fits, at the front of an area, and answers its length.
-fn fill(hex: &Hex<'_>, area: &mut [u8]) -> usize
+// Writes a byte string of a line, which fits, into an area.
+fn fill<'a>(hex: &Hex<'_>, area: &'a mut [u8]) -> &'a [u8]
     requires { length (bytes_of hex.now) ≤ length area.old }
-    ensures within { result ≤ length area.new }
-    ensures front { take result area.new ≡ bytes_of hex.now }
+    ensures { result.now ≡ bytes_of hex.now }
 {
     match hex.decode(area) {
-        Ok(length) => length,
+        Ok(length) => &area[..length],
         Err(_) => unreachable(),
     }
 }
@@ -94,18 +93,15 @@ impl<C: WideCipher, J: KeyedHash> Hall<C, J> {
         requires second { Fits (length second.old) (asked_of command) }
         ensures { Obeys C.WideCipher J.KeyedHash (state_of self.old) (length work.old) (length out.old) out.old (asked_of command.entry) result (state_of self.new) out.new }
     {
+        // Kept: a match, since the commands are these four, each with what it needs.
         match command {
             Command::Draw => self.draw(),
             Command::GiveUp => self.give_up(),
             Command::Seal { header, text } => {
-                let a = fill(&header, first);
-                let b = fill(&text, second);
-                self.seal(&first[0..a], &second[0..b], out)
+                self.seal(fill(&header, first), fill(&text, second), out)
             }
             Command::Receive { header, record } => {
-                let a = fill(&header, first);
-                let b = fill(&record, second);
-                self.receive(&first[0..a], &second[0..b], work, out)
+                self.receive(fill(&header, first), fill(&record, second), work, out)
             }
         }
     }

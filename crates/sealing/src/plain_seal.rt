@@ -13,6 +13,7 @@ use octets::be_bytes;
 
 impl<C: WideCipher, J: KeyedHash> Line<C, J> {
     // Writes the record of `text` under `number` at the front of the area, and answers its length.
+    // Kept: a length and not the record, since C is told it, and the area stays the caller's.
     pub fn seal(
         &self,
         number: u64,

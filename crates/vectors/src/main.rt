@@ -17,6 +17,7 @@ fn judge_lines<R: Read, W: Write + Drop>(
     let mut count = Count::default();
     let mut areas = Areas::new();
     let mut answer = [0; LONGEST];
+    // Kept: a loop that runs until its input ends has no measure, so its proof does not close.
     for number in 1..u64::MAX {
         if lines.waits() {
             out.flush()?;
