@@ -9,8 +9,8 @@ pub struct Marks {
 }
 
 // The highest is 0 or marked, and nothing below 1 is.
-#[derive(Clone, Copy)]
 // Kept: bits of a word, since a board keeps a receiver as two numbers.
+#[derive(Clone, Copy)]
 pub struct Window {
     pub(crate) accepted: Marks,
     ghost topped: { (1 ≤ accepted.highest → accepted.marks % 2 ≡ 1) },

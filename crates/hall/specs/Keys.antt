@@ -1,8 +1,8 @@
 -- Which keys the parts take, and which they hold.
-use Rattle.std.specs.Prelude.{ℕ, Bool, cond, List, length, Ok, Err, Result, ◌==◌, nat_le}
+use Rattle.std.specs.Prelude.{ℕ, Bool, List, length, Ok, Err, Result, ◌==◌, nat_le}
 use Rattle.refusals.specs.declared.KeyLength.{KeyLength}
 use Rattle.aes.specs.Key.{key_of, admitted}
-use Rattle.from_key.specs.Taken.{wrong, sized, taken}
+use Rattle.from_key.specs.Taken.{sized, taken}
 use Rattle.hashes.specs.Keys.{polyval_key, cmac_key}
 use Rattle.hashes.specs.declared.cmac.Cmac.{Cmac}
 use Rattle.hashes.specs.declared.polyval.Polyval.{Polyval}

@@ -3,8 +3,6 @@ use Rattle.std.specs.Prelude.{◌≡◌, ℕ, cond, List, None, Ok, Err, Option,
 use Rattle.refusals.specs.Table.{alone, key_length, first_number}
 use Rattle.refusals.specs.declared.KeyLength.{KeyLength}
 use Rattle.refusals.specs.declared.Refusal.{Refusal}
-use Rattle.hashes.specs.declared.cmac.Cmac.{Cmac}
-use Rattle.hashes.specs.declared.polyval.Polyval.{Polyval}
 use Rattle.ends.specs.Sending.{Parts, started, last}
 use Rattle.ends.specs.Window.{fresh}
 use Rattle.ends.specs.declared.counter.Counts.{Counts}
@@ -16,7 +14,7 @@ use Rattle.forms.specs.Spelling.{Ends}
 use Rattle.forms.specs.Spelling as spelling
 use Rattle.forms.specs.declared.opening.Pile.{Pile}
 use Rattle.forms.specs.declared.opening.Pile.TheVariants as pile
-use Rattle.hall.specs.Keys.{CipherA, CipherB, Keys, keys_a, keys_b, keys_of}
+use Rattle.hall.specs.Keys.{Keys, keys_a, keys_b, keys_of}
 use Rattle.hall.specs.Steps.{State, state_of}
 use Rattle.hall.specs.declared.hall.Hall.{Hall}
 use Rattle.hall.specs.declared.opened.Opened.{Opened}

@@ -1,5 +1,4 @@
-use Rattle.std.proofs.Common.{rules, ◌≡◌, sym, ap, ◌∙◌, subst}
-use Rattle.ends.specs.Sending.{started, parts}
+use Rattle.std.proofs.Common.{rules, sym, ap, ◌∙◌}
 use Rattle.hall.proofs.Making.{new-sender}
 use Rattle.hall.proofs.opening.make.Goals as goal
 
