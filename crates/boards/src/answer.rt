@@ -25,6 +25,7 @@ pub struct Answer {
 }
 
 // What a call did: the number of the record, and how many bytes it wrote.
+// Kept: beside `Opened`, since it tells of draws and of sealed records too, and the name would be wrong there.
 #[derive(Clone, Copy)]
 pub struct Done {
     pub number: u64,

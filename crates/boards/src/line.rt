@@ -4,7 +4,7 @@ use hashes::{Cmac, Polyval};
 use sealing::Line;
 
 // A line of either pile.
-// Kept: each call on it is a match of two arms, since there are these two piles and no more.
+// Kept: each call on it is a match of two arms; a `dyn` or a trait for two closed kinds would say each contract once more.
 #[derive(Drop)]
 pub enum AnyLine {
     A(Line<PileA, Polyval>),

@@ -13,11 +13,7 @@ use sealing::{Line, LineName};
 fn line_name(name: &[u8]) -> Result<LineName, Fault>
     ensures { meant (λ n. n.bytes) result ≡ named name.now (Fine name.now) }
 {
-    if name.len() != 8 {
-        return Err(Fault::LineName(name.len()));
-    }
-    let mut bytes = [0; 8];
-    bytes.copy_from_slice(name);
+    let bytes = <[u8; 8]>::try_from(name).map_err(|_| Fault::LineName(name.len()))?;
     Ok(LineName::new(&bytes))
 }
 

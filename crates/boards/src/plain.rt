@@ -11,6 +11,7 @@ use crate::fault::{Fault, answer};
 use crate::line::AnyLine;
 use sealing::{Opened, SealingFault, Work};
 
+// Kept: header, record and areas one by one, here and in the other calls, since C lends them so.
 impl AnyLine {
     #[tactic(auto, using(crate::proofs::Dispatch::same_line))]
     fn seal(

@@ -10,6 +10,7 @@ pub struct SenderState {
 }
 
 // A receiving end: the highest number accepted, or 0; bit i of the marks says that the number i below it was accepted.
+// Kept: beside `Marks` of the ends, since C keeps it and fixes its layout.
 #[repr(C)]
 #[derive(Clone, Copy)]
 pub struct ReceiverState {

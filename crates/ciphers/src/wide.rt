@@ -50,3 +50,46 @@ pub trait WideCipher {
 
     ghost redone: { (c : Self) (w s : List ℕ) → Admitted (lowest c) (highest c) w s → enc c w (dec c w s) ≡ s };
 }
+
+// A cipher that is lent is the cipher itself.
+impl<C: WideCipher> WideCipher for &C {
+    ghost lowest = { λ c. C.WideCipher.lowest c.now };
+
+    ghost highest = { λ c. C.WideCipher.highest c.now };
+
+    ghost carried = { λ c. C.WideCipher.carried c.now };
+
+    ghost enc = { λ c w s. C.WideCipher.enc c.now w s };
+
+    ghost dec = { λ c w s. C.WideCipher.dec c.now w s };
+
+    ghost least = { λ c. C.WideCipher.least c.now };
+
+    ghost ordered = { λ c. C.WideCipher.ordered c.now };
+
+    ghost most = { λ c. C.WideCipher.most c.now };
+
+    ghost encsize = { λ c w s a. C.WideCipher.encsize c.now w s a };
+
+    ghost decsize = { λ c w s a. C.WideCipher.decsize c.now w s a };
+
+    ghost encbytes = { λ c w s a. C.WideCipher.encbytes c.now w s a };
+
+    ghost decbytes = { λ c w s a. C.WideCipher.decbytes c.now w s a };
+
+    ghost undone = { λ c w s a. C.WideCipher.undone c.now w s a };
+
+    ghost redone = { λ c w s a. C.WideCipher.redone c.now w s a };
+
+    fn admits(&self, len: usize) -> Result<(), CipherFault> {
+        (**self).admits(len)
+    }
+
+    fn encipher(&self, tweak: &[u8; 8], s: &mut [u8]) -> Result<(), CipherFault> {
+        (**self).encipher(tweak, s)
+    }
+
+    fn decipher(&self, tweak: &[u8; 8], s: &mut [u8]) -> Result<(), CipherFault> {
+        (**self).decipher(tweak, s)
+    }
+}

@@ -231,6 +231,7 @@ fn sealed(sealing: &Sealing<&[u8]>, area: &mut Area) -> Result<usize, Refusal>
 }
 
 // Writes what the library gives at the front of the area, and answers how many bytes that are, or the refusal.
+// Kept: a length and a match: the area stays the caller's, and each kind of question is a call of its own.
 pub fn answer(question: &Question<&[u8]>, area: &mut [u8; LONGEST]) -> Result<usize, Refusal>
     ensures answer { result ≡ counted (answering (asked (λ s. s.now) question.now)) }
     ensures after { area.new ≡ placed (answering (asked (λ s. s.now) question.now)) area.old }

@@ -108,6 +108,7 @@ fn written<'a>(question: &Question<Hex<'_>>, areas: &'a mut Areas) -> Option<Que
             tweak: ciphering.tweak,
             string: fill(&ciphering.string, third)?,
         }),
+        // Kept: the keys of the cipher once more, since a function for them needs a definition of its own for when both fit.
         Question::Seal(sealing) => Question::Seal(Sealing {
             keys: CipherKeys {
                 pile: sealing.keys.pile,

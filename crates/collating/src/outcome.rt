@@ -5,7 +5,7 @@ ghost use Rattle.collating.specs.Reports.{written};
 use forms::Hexadecimal;
 use std::fmt;
 
-// Kept: an enum of its own and no `Result`, which is of the library and takes no `Display` of ours.
+// Kept: an enum of its own: it is printed, and a `Result` would need a type around it for that.
 #[derive(Clone, Copy)]
 pub enum Outcome<S> {
     Bytes(S),

@@ -36,7 +36,7 @@ pub struct CipherKeys<S> {
 pub struct Stretch<S> {
     pub kind: ExpanderKind,
     pub key: S,
-    // Kept: any byte, since the library is to be asked with a wrong one too.
+    // Kept: any byte, since `Expander::add` takes any, and a line may ask with a wrong one; an enum would have no case for it.
     pub domain: u8,
     pub tweak: [u8; 8],
     pub input: [u8; 16],

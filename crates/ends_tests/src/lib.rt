@@ -22,7 +22,7 @@ mod tests {
     // Draws a ticket and gives it up.
     fn skip(sender: &mut Sender<(), ()>) -> Result<u64, SenderFault> {
         let ticket = sender.draw()?;
-        // Kept: tried as `let .. else`, here and below, which lets a ticket go that nothing takes.
+        // Kept: a match, here and below, since a `let .. else` was tried and would drop a ticket, which is no `Drop`.
         match sender.give_up(ticket) {
             Ok(number) => Ok(number),
             Err(_) => unreachable(),

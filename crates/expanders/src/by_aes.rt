@@ -50,6 +50,7 @@ impl FromKey for AesExpander {
 
 impl AesExpander {
     // AES of the domain, the tweak and seven zero bytes.
+    // Kept: the domain as a byte, since it stands in the block so; a `Domain` would be turned back at once.
     fn mask(&self, domain: u8, tweak: &[u8; 8]) -> [u8; 16]
         ensures { result ≡ mask_of (key_of self.now.key) domain tweak.now }
     {

@@ -32,6 +32,7 @@ impl Blocks<64> for Stream {
 }
 
 // The nonce of a domain and a tweak: the domain, three zero bytes and the tweak.
+// Kept: the domain as a byte, since it stands in the nonce so; a `Domain` would be turned back at once.
 fn nonce(domain: u8, tweak: &[u8; 8]) -> [u8; 12]
     ensures { result ≡ nonce_of domain tweak.now }
 {

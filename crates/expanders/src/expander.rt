@@ -27,7 +27,7 @@ pub trait Expander {
     }
 
     // Adds the sequence from `from` on to the stretch.
-    // Kept: the domain is a byte, since any but 1 and 2 is to be refused; what else is asked with stands in no other call.
+    // Kept: the domain is a byte, since a narrower type would ask more of callers; the rest one by one, since a struct of it would be made for each call.
     fn add(
         &self,
         domain: u8,

@@ -10,7 +10,7 @@ pub type HallA = Hall<PileA, Polyval>;
 pub type HallB = Hall<PileB, Cmac>;
 
 // Ends of either pile.
-// Kept: a variant for each, since there are these two piles and no more.
+// Kept: a variant for each; a `dyn` for two closed kinds would say the contract of each call once more.
 pub enum Opened {
     A(HallA),
     B(HallB),

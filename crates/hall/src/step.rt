@@ -93,7 +93,7 @@ impl<C: WideCipher, J: KeyedHash> Hall<C, J> {
         requires second { Fits (length second.old) (asked_of command) }
         ensures { Obeys C.WideCipher J.KeyedHash (state_of self.old) (length work.old) (length out.old) out.old (asked_of command.entry) result (state_of self.new) out.new }
     {
-        // Kept: a match, since the commands are these four, each with what it needs.
+        // Kept: a match on a closed enum; a closure for each command would have the same four contracts beside it.
         match command {
             Command::Draw => self.draw(),
             Command::GiveUp => self.give_up(),

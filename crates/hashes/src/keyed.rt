@@ -14,3 +14,16 @@ pub trait KeyedHash {
 
     ghost bytes: { (h : Self) (s : List ℕ) → Bytes s → Bytes (value h s) };
 }
+
+// A hash that is lent is the hash itself.
+impl<H: KeyedHash> KeyedHash for &H {
+    ghost value = { λ h s. H.KeyedHash.value h.now s };
+
+    ghost size = { λ h s b. H.KeyedHash.size h.now s b };
+
+    ghost bytes = { λ h s b. H.KeyedHash.bytes h.now s b };
+
+    fn hash(&self, first: &[u8], second: &[u8]) -> [u8; 16] {
+        (**self).hash(first, second)
+    }
+}

@@ -12,7 +12,7 @@ use crate::limits::{judge_header, judge_number};
 use crate::line::Line;
 use ciphers::WideCipher;
 use hashes::KeyedHash;
-use octets::{be_value, equal};
+use octets::{be_value, block, equal};
 
 // The number of a record and the length of its text.
 #[derive(Clone, Copy, PartialEq, Eq, Debug)]
@@ -26,9 +26,7 @@ fn front(record: &[u8]) -> [u8; 8]
     requires { 8 ≤ length «record».now }
     ensures { result ≡ take 8 «record».now }
 {
-    let mut bytes = [0; 8];
-    bytes.copy_from_slice(&record[0..8]);
-    bytes
+    block(record)
 }
 
 impl<C: WideCipher, J> Line<C, J> {
