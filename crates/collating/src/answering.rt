@@ -1,12 +1,11 @@
 // A question, answered by the library.
-ghost use Rattle.std.specs.Prelude.{◌≡◌, ◌==◌, ◌≤◌, ◌++◌, length, drop};
+ghost use Rattle.std.specs.Prelude.{◌≡◌, ◌≤◌, ◌++◌, length, drop};
 ghost use Rattle.octets.specs.Strings.{zeros};
 ghost use Rattle.ciphers.specs.Refusals.{verdict, kept};
 ghost use Rattle.sealing.specs.Meaning.{meaning_of};
 ghost use Rattle.collating.specs.Answers.{answering, counted, placed, stretching, stretch_of, directed, through, recording};
 ghost use Rattle.collating.specs.Questions.{asked, stretch_with, ciphering_with, sealing_with};
 ghost use Rattle.collating.specs.declared.question.Question.TheVariants.{Aes, Hash, ChaCha, Subkey, Expand, Cipher, Seal};
-ghost use Rattle.from_key.specs.Taken.{held, taken};
 
 use crate::question::{Ciphering, Direction, ExpanderKind, HashKind, Question, Sealing, Stretch};
 use aes::AesKey;
@@ -14,9 +13,9 @@ use chacha::{block, subkey};
 use ciphers::{CipherFault, PileA, PileB, WideCipher};
 use expanders::{AesExpander, ChaChaExpander, Expander};
 use forms::Pile;
-use from_key::FromKey;
+use from_key::{FromKey, exactly};
 use hashes::{Cmac, KeyedHash, Polyval};
-use refusals::{KeyLength, Refusal};
+use refusals::Refusal;
 use sealing::{Line, LineName};
 
 // The longest answer: the record of a text of 4,096 bytes.
@@ -56,13 +55,6 @@ fn keyed_hash(kind: HashKind, key: &[u8], string: &[u8], area: &mut Area) -> Res
     }
 }
 
-// The key of ChaCha20. Any length but 32 is refused.
-fn chacha_key(key: &[u8]) -> Result<[u8; 32], KeyLength>
-    ensures { held (λ k. k) result ≡ taken (λ n. (n == 32)) key.now }
-{
-    <[u8; 32]>::try_from(key).map_err(|_| KeyLength(key.len()))
-}
-
 fn chacha_block(
     key: &[u8],
     counter: u32,
@@ -72,7 +64,7 @@ fn chacha_block(
     ensures answer { result ≡ counted (answering (ChaCha key.now counter nonce.now)) }
     ensures after { area.new ≡ placed (answering (ChaCha key.now counter nonce.now)) area.old }
 {
-    let key = chacha_key(key)?;
+    let key = exactly(key)?;
     Ok(put(&block(&key, counter, nonce), area))
 }
 
@@ -80,7 +72,7 @@ fn derived(key: &[u8], input: &[u8; 16], area: &mut Area) -> Result<usize, Refus
     ensures answer { result ≡ counted (answering (Subkey key.now input.now)) }
     ensures after { area.new ≡ placed (answering (Subkey key.now input.now)) area.old }
 {
-    let key = chacha_key(key)?;
+    let key = exactly(key)?;
     Ok(put(&subkey(&key, input), area))
 }
 

@@ -38,7 +38,7 @@ fn find_space(line: &[u8]) -> Option<usize>
 pub(crate) fn look_up<T: Copy>(word: &[u8], table: &[(&[u8], T)]) -> Option<T>
     ensures { result ≡ looked_up word.now table.now }
 {
-    // Kept: a loop, since `find` would give a pair whose value is still to be taken out, and is no shorter.
+    // Kept: a loop, since with the library's `find` the proof did not close: that nothing before met the test is not known.
     for (name, value) in table {
         if equal(word, name) {
             return Some(*value);

@@ -11,7 +11,7 @@ use crate::expander::Expander;
 use crate::fault::ExpanderFault;
 use crate::keys::ChaChaExpander;
 use chacha::{block, subkey};
-use from_key::FromKey;
+use from_key::{FromKey, exactly};
 use refusals::KeyLength;
 
 // A key of ChaCha20 with a nonce.
@@ -51,8 +51,9 @@ impl FromKey for ChaChaExpander {
     ghost most = { Prim.search rules };
 
     fn new(key: &[u8]) -> Result<ChaChaExpander, KeyLength> {
-        let bytes = <[u8; 32]>::try_from(key).map_err(|_| KeyLength(key.len()))?;
-        Ok(ChaChaExpander { key: bytes })
+        Ok(ChaChaExpander {
+            key: exactly(key)?,
+        })
     }
 }
 

@@ -1,7 +1,7 @@
 // Parts that are made from a key.
 #![tactic(auto)]
 
-ghost use Rattle.std.specs.Prelude.{◌≡◌, ℕ, ◌≤◌, Bool, true, List};
+ghost use Rattle.std.specs.Prelude.{◌≡◌, ℕ, ◌≤◌, Bool, true, List, ◌==◌};
 ghost use Rattle.from_key.specs.Taken.{held, taken};
 
 use refusals::KeyLength;
@@ -20,4 +20,11 @@ pub trait FromKey {
 
     // No part takes more than 32 bytes.
     ghost most: { (n : ℕ) → takes n ≡ true → n ≤ 32 };
+}
+
+// A key of N bytes. Any other length is refused.
+pub fn exactly<const N: usize>(bytes: &[u8]) -> Result<[u8; N], KeyLength>
+    ensures { held (λ key. key) result ≡ taken (λ n. (n == N)) bytes.now }
+{
+    <[u8; N]>::try_from(bytes).map_err(|_| KeyLength(bytes.len()))
 }

@@ -3,8 +3,7 @@ ghost use Rattle.std.specs.Prelude.{◌≡◌, length, ◌==◌};
 ghost use Rattle.octets.specs.Strings.{Bytes};
 ghost use Rattle.std.proofs.Common.{rules};
 
-use from_key::FromKey;
-use octets::block;
+use from_key::{FromKey, exactly};
 use refusals::KeyLength;
 
 #[derive(Clone, Copy)]
@@ -12,10 +11,6 @@ pub(crate) struct Key {
     pub(crate) bytes: [u8; 16],
     ghost long: { length bytes ≡ 16 },
     ghost small: { Bytes bytes },
-}
-
-impl Key {
-    const LENGTH: usize = 16;
 }
 
 impl FromKey for Key {
@@ -26,9 +21,8 @@ impl FromKey for Key {
     ghost most = { Prim.search rules };
 
     fn new(key: &[u8]) -> Result<Key, KeyLength> {
-        if key.len() != Self::LENGTH {
-            return Err(KeyLength(key.len()));
-        }
-        Ok(Key { bytes: block(key) })
+        Ok(Key {
+            bytes: exactly(key)?,
+        })
     }
 }

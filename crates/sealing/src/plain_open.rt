@@ -1,10 +1,9 @@
 // Plain open.
 ghost use Rattle.std.specs.Prelude.{◌≡◌, ◌+◌, ◌≤◌, length, take};
-ghost use Rattle.octets.specs.Strings.{zeros, same};
+ghost use Rattle.octets.specs.Strings.{zeros};
 ghost use Rattle.sealing.specs.Calls.{examining, opening, placed, plain, text_of};
 ghost use Rattle.sealing.specs.Exactly.{OpensExactly};
 ghost use Rattle.sealing.specs.Meaning.{meaning_of};
-ghost use Rattle.sealing.specs.Sealing.{tag as tag_of};
 
 use crate::fault::SealingFault;
 use crate::guard::Work;
@@ -58,21 +57,18 @@ impl<C: WideCipher, J> Line<C, J> {
 }
 
 impl<C: WideCipher, J: KeyedHash> Line<C, J> {
-    // Deciphers a record past its number into `body`, and answers whether it then begins with the header's tag.
-    fn decipher(&self, header: &[u8], record: &[u8], body: &mut [u8]) -> bool
+    // Deciphers a record past its number into `body`.
+    fn decipher(&self, record: &[u8], body: &mut [u8])
         requires size { length «record».now ≡ length body.old + 8 }
         requires least { 16 ≤ length body.old }
         requires low { C.WideCipher.lowest self.now.cipher ≤ length body.old }
         requires high { length body.old ≤ C.WideCipher.highest self.now.cipher }
-        ensures answer { result ≡ same (take 16 (plain (meaning_of C.WideCipher J.KeyedHash self.now) «record».now)) (tag_of (meaning_of C.WideCipher J.KeyedHash self.now) header.now) }
-        ensures after { body.new ≡ plain (meaning_of C.WideCipher J.KeyedHash self.now) «record».now }
+        ensures { body.new ≡ plain (meaning_of C.WideCipher J.KeyedHash self.now) «record».now }
     {
         body.copy_from_slice(&record[8..]);
         if let Err(_) = self.cipher.decipher(&front(record), body) {
             unreachable()
         }
-        let tag = self.tag(header);
-        equal(&body[0..16], &tag)
     }
 
     // Opens a record: its text goes to the front of `text`, and the work area is all zero afterwards, whatever the answer.
@@ -95,7 +91,9 @@ impl<C: WideCipher, J: KeyedHash> Line<C, J> {
         let number = self.examine(header, record, guard.0.len(), text.len())?;
         let size = record.len() - 8;
         let body = &mut guard.0[0..size];
-        if !self.decipher(header, record, body) {
+        self.decipher(record, body);
+        let tag = self.tag(header);
+        if !equal(&body[0..16], &tag) {
             return Err(SealingFault::NoSealing);
         }
         let length = size - 16;

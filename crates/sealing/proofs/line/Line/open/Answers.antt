@@ -1,4 +1,5 @@
-use Rattle.std.proofs.Common.{◌≡◌, ◌-◌, length, ap, ◌∙◌, arith, rules}
+use Rattle.std.proofs.Common.{◌≡◌, ◌-◌, length, take, ap, ◌∙◌, ap₂, arith, rules}
+use Rattle.octets.specs.Strings.{same}
 use Rattle.sealing.proofs.Opening.{tagged_ok, copied-out}
 use Rattle.sealing.proofs.Sealings.{exactly}
 use Rattle.sealing.proofs.line.Line.open.Goals as goal
@@ -10,13 +11,13 @@ returns-in_err-number-clause-exactly g c =
 pub returns-clause-answer : goal.returns-clause-answer
 returns-clause-answer g c =
     let size : length c.args.record.now - 8 ≡ length c.decipher.new.body = omega arith in
-    tagged_ok _ c.args.record.now _ c.in_ok-number.number _ c.in_ok-number.ensures c.if-not-decipher.ensures.answer (omega arith)
+    tagged_ok _ c.args.record.now _ c.in_ok-number.number _ c.in_ok-number.ensures (c.if-not-equal.ensures ∙ ap₂ same (ap (take 16) c.decipher.ensures) c.tag-tag.ensures) (omega arith)
 
 pub returns-clause-after : goal.returns-clause-after
 returns-clause-after g c =
-    let told = c.if-not-decipher.ensures in
+    let told = c.decipher.ensures in
     let size : length c.args.record.now - 8 ≡ length c.decipher.new.body = omega arith in
-    copied-out _ c.decipher.new.body c.copy_from_slice.new.self c.args.text.now (length c.args.record.now - 8) told.after (size ∙ ap length told.after) c.copy_from_slice.ensures.after
+    copied-out _ c.decipher.new.body c.copy_from_slice.new.self c.args.text.now (length c.args.record.now - 8) told (size ∙ ap length told) c.copy_from_slice.ensures.after
 
 pub returns-clause-exactly : goal.returns-clause-exactly
 returns-clause-exactly g c =
