@@ -6,7 +6,7 @@ ghost use Rattle.aes.specs.KeyBytes.{key_bytes};
 use super::schedule::Schedule;
 
 // A key of `nk` words, 4 or 8, expanded: four words for each of its nk + 7 round keys. Its first words are the key.
-// Kept: nk as a number, since the standard computes with it; 60 words for the shorter key too, since there is no heap.
+// Kept: nk as a number, since an enum would be turned into 4 or 8 at each use; 60 words for the shorter key too, since there is no heap.
 #[derive(Clone, Copy)]
 pub struct AesKey {
     pub(crate) nk: usize,

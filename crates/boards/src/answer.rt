@@ -25,7 +25,7 @@ pub struct Answer {
 }
 
 // What a call did: the number of the record, and how many bytes it wrote.
-// Kept: beside `Opened`, since it tells of draws and of sealed records too, and the name would be wrong there.
+// Kept: beside `Opened`, since it tells of draws and sealed records too, and one struct for both would be named wrongly in one.
 #[derive(Clone, Copy)]
 pub struct Done {
     pub number: u64,

@@ -10,7 +10,6 @@ pub(crate) fn word(s: &[u8], i: usize) -> u32
     requires { 4 * i + 4 ≤ length s.now }
     ensures { result ≡ word_of s.now i }
 {
-    // Kept: four bytes by their places, since `as_chunks` would cut the whole string for each word.
     u32::from_le_bytes([s[4 * i], s[4 * i + 1], s[4 * i + 2], s[4 * i + 3]])
 }
 

@@ -5,7 +5,7 @@
 mod tests {
     use ciphers::{CipherFault, PileA, PileB, WideCipher};
     use octets::equal;
-    use refusals::{KeyLength, Place, Reason, Refusal};
+    use refusals::{KeyLength, Place, Refusal};
     use std::array;
     use std::process::Abort;
     use std::test::Fail;
@@ -13,7 +13,7 @@ mod tests {
     const TWEAK: [u8; 8] = [0x01, 0x23, 0x45, 0x67, 0x89, 0xab, 0xcd, 0xef];
 
     // Bytes that count up.
-    // Kept: here and in the tests of the expanders, since test crates share no code.
+    // Kept: here and in the tests of the expanders, since a crate for one line is no plainer.
     fn counted<const N: usize>(first: u8) -> [u8; N] {
         array::from_fn(|i| first.wrapping_add((i % 256) as u8))
     }
@@ -117,22 +117,11 @@ mod tests {
         (there == back && as_it_was).then_some(there.into())
     }
 
-    fn reason(number: u8, place: Place, detail: u64) -> Reason {
-        Reason {
-            number,
-            place,
-            detail,
-        }
-    }
-
     fn refuses<C: WideCipher>(rt: &impl Abort, cipher: &C) {
-        let short = Refusal {
-            reason: reason(5, Place::Cipher, 32),
-            carried: None,
-        };
+        let short = Refusal::alone(5, Place::Cipher, 32);
         let long = Refusal {
-            reason: reason(6, Place::Cipher, 4112),
-            carried: Some(reason(4, Place::Expander, 4096)),
+            carried: Some(Refusal::alone(4, Place::Expander, 4096).reason),
+            ..Refusal::alone(6, Place::Cipher, 4112)
         };
         assert_eq!(rt; refusal(cipher, 0), Some(short));
         assert_eq!(rt; refusal(cipher, 31), Some(short));

@@ -49,6 +49,7 @@ fn keyed_hash(kind: HashKind, key: &[u8], string: &[u8], area: &mut Area) -> Res
     ensures answer { result ≡ counted (answering (Hash kind key.now string.now)) }
     ensures after { area.new ≡ placed (answering (Hash kind key.now string.now)) area.old }
 {
+    // Kept: an arm for each, here and below: what a part gives by its key is said of each type, and of no trait.
     match kind {
         HashKind::Polyval => Ok(put(&Polyval::new(key)?.hash(string, &[]), area)),
         HashKind::Cmac => Ok(put(&Cmac::new(key)?.hash(string, &[]), area)),

@@ -9,7 +9,7 @@ pub struct Marks {
 }
 
 // The highest is 0 or marked, and nothing below 1 is.
-// Kept: bits of a word, since a board keeps a receiver as two numbers.
+// Kept: bits of a word, since a receiver is kept through the C interface as two numbers.
 #[derive(Clone, Copy)]
 pub struct Window {
     pub(crate) accepted: Marks,

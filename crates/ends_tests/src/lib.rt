@@ -30,11 +30,7 @@ mod tests {
     }
 
     fn told(number: u8, detail: u64) -> Reason {
-        Reason {
-            number,
-            place: Place::Sender,
-            detail,
-        }
+        Refusal::alone(number, Place::Sender, detail).reason
     }
 
     fn reason(fault: SenderFault) -> Reason {

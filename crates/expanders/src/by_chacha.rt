@@ -51,9 +51,7 @@ impl FromKey for ChaChaExpander {
     ghost most = { Prim.search rules };
 
     fn new(key: &[u8]) -> Result<ChaChaExpander, KeyLength> {
-        Ok(ChaChaExpander {
-            key: exactly(key)?,
-        })
+        Ok(ChaChaExpander { key: exactly(key)? })
     }
 }
 

@@ -19,7 +19,7 @@ mod tests {
     const LENGTHS: [usize; 11] = [0, 1, 2, 15, 16, 17, 63, 64, 65, 200, 4096];
 
     // Bytes that count up.
-    // Kept: here and in the tests of the ciphers, since test crates share no code.
+    // Kept: here and in the tests of the ciphers, since a crate for one line is no plainer.
     fn counted<const N: usize>(first: u8) -> [u8; N]
         requires { N ≤ 32 }
     {

@@ -83,6 +83,7 @@ impl Hex<'_> {
     }
 
     // Writes the bytes that it stands for at the front of `area`, and answers how many they are. An area that is too short is left as it is.
+    // Kept: a length, since with a slice of the area in the result nothing could be said of the rest of it.
     pub fn decode(&self, area: &mut [u8]) -> Result<usize, TooShort>
         ensures answer { result ≡ decoded (bytes_of self.now) (length area.old) }
         ensures after { area.new ≡ placed (bytes_of self.now) area.old }

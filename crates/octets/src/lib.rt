@@ -10,7 +10,7 @@ pub fn add_into(dst: &mut [u8], src: &[u8])
     ensures { dst.new ≡ xor dst.old src.now }
 {
     let n = dst.len().min(src.len());
-    // Kept: dst[i], for of bytes written through a zip of iter_mut a proof knows only how many there are.
+    // Kept: dst[i]; tried through a zip of iter_mut, of which a proof knows only how many bytes were written.
     for (i, s) in src[..n].iter().enumerate() {
         dst[i] ^= s;
     }

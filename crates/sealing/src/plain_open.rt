@@ -72,7 +72,7 @@ impl<C: WideCipher, J: KeyedHash> Line<C, J> {
     }
 
     // Opens a record: its text goes to the front of `text`, and the work area is all zero afterwards, whatever the answer.
-    // Kept: header, record and areas one by one, here and above, since each is lent for the call alone and named in the contract.
+    // Kept: header, record and areas one by one, here and above, since a struct of them would be made for each call.
     #[tactic(auto, using(crate::proofs::Sealings::exactly, crate::proofs::Examined::tag_fits))]
     pub fn open(
         &self,
