@@ -127,6 +127,7 @@ fn sealing<'a>(fields: &mut Fields<'a>) -> Option<Sealing<Hex<'a>>>
     })
 }
 
+// Kept: a match, since each form reads other fields; a table of functions would need one contract for all.
 fn question<'a>(fields: &mut Fields<'a>) -> Option<Question<Hex<'a>>>
     ensures { took (asked bytes_of) result fields.new.rest.now ≡ question_form fields.old.rest.now }
 {

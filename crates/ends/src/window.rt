@@ -1,6 +1,7 @@
 // Which numbers a receiver has accepted.
 ghost use Rattle.std.specs.Prelude.{◌≡◌, ℕ, ◌/◌, ◌%◌, ◌^◌, ◌≤◌};
 
+// Kept: 0 where none was accepted, since it is no number of a line, and C keeps it so.
 // The highest number accepted, 0 at first, and which of the 64 numbers that end there were: bit i of the marks says that `highest - i` was.
 #[derive(Clone, Copy, PartialEq, Eq, Debug)]
 pub struct Marks {

@@ -47,6 +47,7 @@ impl Answer<usize> {
             Answer::Ticket(number) => Answer::Ticket(number),
             Answer::GivenUp(number) => Answer::GivenUp(number),
             Answer::NoTicket => Answer::NoTicket,
+            // Kept: the cut here and below, since a function for it would say the same of two lengths in its contract.
             Answer::Record(length) => Answer::Record(&out[..length.min(out.len())]),
             Answer::Text(length) => Answer::Text(&out[..length.min(out.len())]),
             Answer::Refused(refusal) => Answer::Refused(refusal),

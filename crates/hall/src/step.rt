@@ -43,6 +43,7 @@ impl<C: WideCipher, J: KeyedHash> Hall<C, J> {
         }
     }
 
+    // Kept: arms that cannot be, here and in the calls beside it, since a ticket is no `Drop` and an `else` would let it go.
     fn give_up(&mut self) -> Reply
         ensures { Obeys C.WideCipher J.KeyedHash (state_of self.old) 0 0 [] give_up result (state_of self.new) [] }
     {

@@ -49,6 +49,7 @@ fn session<C: WideCipher + Drop, J: KeyedHash + Drop, R: Read, W: Write + Drop>(
 }
 
 // The same for ends of either pile.
+// Kept: a match of two arms, since the hall of each pile is another type, and a `dyn` for two is no plainer.
 fn serve<R: Read, W: Write + Drop>(
     opened: Opened,
     lines: &mut Lines<R>,
