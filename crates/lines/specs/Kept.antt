@@ -16,6 +16,6 @@ pub record Kept (most : ℕ) (s : List ℕ) : Type 0 where
   pub short : length s ≤ most
   pub unbroken : (k : ℕ) → k < length s → slice_index s k ≢ 10
 
--- l keeps its limit, and the line that was given
+-- l keeps its limit and a line within it, whatever came, and that line is the one that was given
 abbrev pub Gives : {R E : Type 0} → ℕ → Result (Option (Bor (List ℕ))) E → Lines R → Type 0
-Gives most r l = (l.most ≡ most) × IfOk r (λ next. IfSome next (λ line. line.now ≡ line_of l))
+Gives most r l = (l.most ≡ most) × Kept most (line_of l) × IfOk r (λ next. IfSome next (λ line. line.now ≡ line_of l))
