@@ -7,8 +7,8 @@ use Rattle.octets.proofs.Same.{same_is, is_same}
 use Rattle.std.proofs.lemmas.List.{append_cancel_left, drop_at, length-append, length-drop, length-take-le, take-append-drop, take_at}
 use Rattle.ciphers.specs.Admitted.{Admitted}
 use Rattle.ciphers.proofs.Verdicts.{within}
-use Rattle.sealing.proofs.Examined.{Examined, examined, examines, unless-ok, admitting-ok, same-value}
-use Rattle.sealing.specs.Calls.{plain, number_of, text_of, tagged, fitting, examining, opening, placed}
+use Rattle.sealing.proofs.Examined.{Examined, examined, examines, unless-ok, admitting-ok, numbered-ok, same-value}
+use Rattle.sealing.specs.Calls.{plain, number_of, text_of, tagged, fitting, sealing, examining, opening, placed}
 use Rattle.sealing.specs.Exactly.{LawfulSizes, OpensExactly}
 use Rattle.sealing.specs.Meaning.{Meaning, Lawful}
 use Rattle.sealing.specs.Sealing.{tag, record_of, IsSealing}
@@ -166,6 +166,12 @@ module _ (m : Meaning) (law : Lawful m) (header : List ℕ) (hb : Bytes header) 
       let size : length (record_of m header n text) ≡ k = length-is m law header (record_of m header n text) hb n text sealed ∙ add_comm 24 (length text) ∙ sym (same-value k (length text + 24) r.1) in
       let front : take k area' ≡ record_of m header n text = ap (take k) placed_at ∙ take_at (record_of m header n text) (drop (length (record_of m header n text)) area) k size in
       subst (λ (y : List ℕ). IsSealing m header y n text) (sym front) sealed
+
+  -- what plain seal writes
+  pub seals : (n : ℕ) (text area area' : List ℕ) (a : Result ℕ SealingFault) → Bytes text → a ≡ sealing m n (length header) (length text) (length area) → area' ≡ placed a area (record_of m header n text) → (k : ℕ) → a ≡ Ok k → IsSealing m header (take k area') n text
+  seals n text area area' a tb ea et k e =
+      let f = numbered-ok n (fitting m (length header) (length text) (length area)) k (sym e ∙ ea) in
+      fitting-seals n text area area' k tb f.1 f.2 f.0 (et ∙ ap (λ (y : Result ℕ SealingFault). placed y area (record_of m header n text)) e)
 
 -- the number that opening answers is the one that was examined
 pub opened-number : (m : Meaning) (header r : List ℕ) (work text : ℕ) (o : Opened) (n : ℕ) → Ok o ≡ opening m header r work text → Ok n ≡ examining m.lowest m.highest m.carried (length header) r work text → o.number ≡ n

@@ -13,4 +13,4 @@ pub use fault::SealingFault;
 pub use guard::Work;
 pub use limits::LAST;
 pub use line::{Line, LineName};
-pub use plain_open::Opened;
+pub use plain_open::{Opened, examine};

@@ -28,8 +28,34 @@ fn front(record: &[u8]) -> [u8; 8]
     block(record)
 }
 
+// Judges sizes and number of a record, for areas of these lengths, and answers its number.
+pub fn examine<C: WideCipher>(
+    cipher: &C,
+    header: &[u8],
+    record: &[u8],
+    work: usize,
+    text: usize,
+) -> Result<u64, SealingFault>
+    ensures { result ≡ examining (C.WideCipher.lowest cipher.now) (C.WideCipher.highest cipher.now) (C.WideCipher.carried cipher.now) (length header.now) «record».now work text }
+{
+    if record.len() < 8 {
+        return Err(SealingFault::RecordShort(record.len()));
+    }
+    judge_header(header)?;
+    let size = record.len() - 8;
+    cipher.admits(size)?;
+    if work < size {
+        return Err(SealingFault::WorkShort(size));
+    }
+    let needed = size - 16;
+    if text < needed {
+        return Err(SealingFault::AreaShort(needed));
+    }
+    judge_number(be_value(&front(record)))
+}
+
 impl<C: WideCipher, J> Line<C, J> {
-    // Judges sizes and number of a record, for areas of these lengths, and answers its number.
+    // The same, of the line's cipher.
     pub fn examine(
         &self,
         header: &[u8],
@@ -39,20 +65,7 @@ impl<C: WideCipher, J> Line<C, J> {
     ) -> Result<u64, SealingFault>
         ensures { result ≡ examining (C.WideCipher.lowest self.now.cipher) (C.WideCipher.highest self.now.cipher) (C.WideCipher.carried self.now.cipher) (length header.now) «record».now work text }
     {
-        if record.len() < 8 {
-            return Err(SealingFault::RecordShort(record.len()));
-        }
-        judge_header(header)?;
-        let size = record.len() - 8;
-        self.cipher.admits(size)?;
-        if work < size {
-            return Err(SealingFault::WorkShort(size));
-        }
-        let needed = size - 16;
-        if text < needed {
-            return Err(SealingFault::AreaShort(needed));
-        }
-        judge_number(be_value(&front(record)))
+        examine(&self.cipher, header, record, work, text)
     }
 }
 
