@@ -4,7 +4,7 @@ use Rattle.std.proofs.Common.{sym, ap, ◌∙◌, take-add, add-zero, mul-suc, m
 use Rattle.std.proofs.Math.Nat.{lt_of_mul-lt-mul_left}
 use Rattle.octets.proofs.Bytes.{bytes-append, bytes-zeros}
 use Rattle.octets.specs.Strings.{Bytes, xor, xor_at}
-use Rattle.std.proofs.lemmas.List.{take_at, drop_at, drop-drop, drop-append-le, length-append, length-drop, length-take-le}
+use Rattle.std.proofs.lemmas.List.{take_at, drop_at, drop-drop, drop-append-le, length-append, length-drop, length-take-le, take_rest}
 use Rattle.expanders.specs.Sequences.{blocks}
 
 pub length-blocks : (N : ℕ) (f : ℕ → List ℕ) (i n : ℕ) → ((k : ℕ) → length (f k) ≡ N) → length (blocks f i n) ≡ N * n
@@ -32,6 +32,10 @@ from_block N f i (suc n) (suc j) h l =
     let e : N * suc j ≡ N + N * j = omega (arith, mul-suc N j) in
     let k : suc i + j ≡ i + suc j = omega arith in
     (p.0, ap (λ (m : ℕ). drop m (f i ++ blocks f (suc i) n)) e ∙ sym (drop-drop (N * j) N (f i ++ blocks f (suc i) n)) ∙ ap (drop (N * j)) (drop_at (f i) (blocks f (suc i) n) N (h i)) ∙ p.1 ∙ ap (λ (m : ℕ). f m ++ p.0) k)
+
+-- a block from its byte `skip` on, as a part of the array b that holds it
+pub rest-of-block : (N skip : ℕ) (b block : List ℕ) → b ≡ block → length block ≡ N → take (N - skip) (drop skip b) ≡ drop skip block
+rest-of-block N skip b block e n = rw (e, ← n) (take_rest block skip)
 
 -- a string added in two parts, one after the other
 xor-join : (a f g : List ℕ) → length f ≤ length a → xor a (f ++ g) ≡ take (length f) (xor a f) ++ xor (drop (length f) (xor a f)) g
