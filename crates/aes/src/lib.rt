@@ -12,7 +12,7 @@ mod key;
 mod schedule;
 mod state;
 
-use from_key::FromKey;
+pub use from_key::FromKey;
 pub use key::AesKey;
 use refusals::KeyLength;
 use schedule::key_expansion;

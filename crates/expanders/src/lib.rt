@@ -12,4 +12,5 @@ mod keys;
 pub use domain::Domain;
 pub use expander::Expander;
 pub use fault::{ExpanderFault, PastReach};
+pub use from_key::FromKey;
 pub use keys::{AesExpander, ChaChaExpander};

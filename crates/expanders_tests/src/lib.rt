@@ -6,8 +6,7 @@ ghost use Rattle.std.specs.Prelude.{◌≤◌};
 #[cfg(test)]
 mod tests {
     use chacha::block;
-    use expanders::{AesExpander, ChaChaExpander, Expander, ExpanderFault, PastReach};
-    use from_key::FromKey;
+    use expanders::{AesExpander, ChaChaExpander, Expander, ExpanderFault, FromKey, PastReach};
     use octets::{add_at, equal};
     use refusals::KeyLength;
     use std::array;

@@ -14,6 +14,7 @@ mod state;
 mod subkeys;
 
 pub use cmac::Cmac;
+pub use from_key::FromKey;
 pub use keyed::KeyedHash;
 pub use polyval::Polyval;
 

@@ -5,8 +5,7 @@ ghost use Rattle.hashes_tests.specs.Examples.{Examples};
 
 #[cfg(test)]
 mod tests {
-    use from_key::FromKey;
-    use hashes::{Cmac, KeyedHash, Polyval};
+    use hashes::{Cmac, FromKey, KeyedHash, Polyval};
     use refusals::KeyLength;
     use std::array;
     use std::test::Fail;
