@@ -25,11 +25,11 @@ type Area = [u8; LONGEST_STRING];
 // An area for each byte string of a question, which has five at most.
 #[derive(Drop)]
 pub struct Areas {
-    first: Area,
-    second: Area,
-    third: Area,
-    fourth: Area,
-    fifth: Area,
+    pub first: Area,
+    pub second: Area,
+    pub third: Area,
+    pub fourth: Area,
+    pub fifth: Area,
 }
 
 impl Areas {

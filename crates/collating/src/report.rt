@@ -30,6 +30,7 @@ impl Verdict<usize> {
     {
         let verdict = match *self {
             Verdict::Same => Verdict::Same,
+            // Kept: the cut, since a function for it would say the same of two lengths in its contract.
             Verdict::Differs(Outcome::Bytes(length)) => {
                 Verdict::Differs(Outcome::Bytes(&out[..length.min(out.len())]))
             }
