@@ -5,7 +5,7 @@
 mod tests {
     use ciphers::{CipherFault, PileA, PileB, WideCipher};
     use octets::equal;
-    use refusals::{KeyLength, Place, Refusal};
+    use refusals::{KeyLength, Place, Reason, Refusal};
     use std::array;
     use std::process::Abort;
     use std::test::Fail;
@@ -117,11 +117,23 @@ mod tests {
         (there == back && as_it_was).then_some(there.into())
     }
 
+    // Written out, and not made by `Refusal::alone`, which the code under test goes through.
+    fn reason(number: u8, place: Place, detail: u64) -> Reason {
+        Reason {
+            number,
+            place,
+            detail,
+        }
+    }
+
     fn refuses<C: WideCipher>(rt: &impl Abort, cipher: &C) {
-        let short = Refusal::alone(5, Place::Cipher, 32);
+        let short = Refusal {
+            reason: reason(5, Place::Cipher, 32),
+            carried: None,
+        };
         let long = Refusal {
-            carried: Some(Refusal::alone(4, Place::Expander, 4096).reason),
-            ..Refusal::alone(6, Place::Cipher, 4112)
+            reason: reason(6, Place::Cipher, 4112),
+            carried: Some(reason(4, Place::Expander, 4096)),
         };
         assert_eq!(rt; refusal(cipher, 0), Some(short));
         assert_eq!(rt; refusal(cipher, 31), Some(short));

@@ -29,8 +29,13 @@ mod tests {
         }
     }
 
+    // Written out, and not made by `Refusal::alone`, which the code under test goes through.
     fn told(number: u8, detail: u64) -> Reason {
-        Refusal::alone(number, Place::Sender, detail).reason
+        Reason {
+            number,
+            place: Place::Sender,
+            detail,
+        }
     }
 
     fn reason(fault: SenderFault) -> Reason {
